@@ -1,0 +1,18 @@
+//! What holds of the spellings, as contracts of functions that do nothing.
+
+ghost use Rattle.std.specs.Prelude.{ℕ, ◌≡◌, ◌<◌, ◌^◌, List, length};
+ghost use Rattle.pb_bytes.specs.BigEndian.{be32, be64, number_of, AreBytes};
+
+/// Every four bytes are the spelling of the number that they read as, and of no other.
+pub fn each_four_bytes()
+    ensures spelled { (bytes : List ℕ) → length bytes ≡ 4 → AreBytes bytes → be32 (number_of bytes) ≡ bytes }
+    ensures below { (bytes : List ℕ) → length bytes ≡ 4 → AreBytes bytes → number_of bytes < 2 ^ 32 }
+    ensures only { (value : ℕ) → value < 2 ^ 32 → number_of (be32 value) ≡ value }
+{}
+
+/// Every eight bytes are the spelling of the number that they read as, and of no other.
+pub fn each_eight_bytes()
+    ensures spelled { (bytes : List ℕ) → length bytes ≡ 8 → AreBytes bytes → be64 (number_of bytes) ≡ bytes }
+    ensures below { (bytes : List ℕ) → length bytes ≡ 8 → AreBytes bytes → number_of bytes < 2 ^ 64 }
+    ensures only { (value : ℕ) → value < 2 ^ 64 → number_of (be64 value) ≡ value }
+{}

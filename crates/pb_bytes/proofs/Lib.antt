@@ -1,1 +1,4 @@
 pub mod BigEndianLemmas
+pub mod VarintLemmas
+pub mod ReadingLemmas
+pub mod Places

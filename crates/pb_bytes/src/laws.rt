@@ -1,7 +1,14 @@
 //! What holds of the spellings, as contracts of functions that do nothing.
 
-ghost use Rattle.std.specs.Prelude.{ℕ, ◌≡◌, ◌<◌, ◌^◌, List, length};
+ghost use Rattle.std.specs.Prelude.{ℕ, ◌≡◌, ◌<◌, ◌^◌, ◌++◌, List, length};
 ghost use Rattle.pb_bytes.specs.BigEndian.{be32, be64, number_of, AreBytes};
+ghost use Rattle.pb_bytes.specs.Varint.{varint};
+
+/// No varint begins another: a number has one, and what follows it is determined.
+pub fn one_varint()
+    ensures { (m n : ℕ) (x y : List ℕ) → m < 2 ^ 64 → n < 2 ^ 64
+        → varint m ++ x ≡ varint n ++ y → (m ≡ n) × (x ≡ y) }
+{}
 
 /// Every four bytes are the spelling of the number that they read as, and of no other.
 pub fn each_four_bytes()

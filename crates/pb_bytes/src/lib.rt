@@ -3,5 +3,7 @@
 
 mod big_endian;
 pub mod laws;
+mod varint;
 
 pub use big_endian::{be32, be64, read_be32, read_be64};
+pub use varint::{put_varint, read_varint};

@@ -2,3 +2,4 @@ pub mod BigEndianLemmas
 pub mod VarintLemmas
 pub mod ReadingLemmas
 pub mod Places
+pub mod Examples

@@ -2,12 +2,18 @@
 
 ghost use Rattle.std.specs.Prelude.{ℕ, ◌≡◌, ◌<◌, ◌^◌, ◌++◌, List, length};
 ghost use Rattle.pb_bytes.specs.BigEndian.{be32, be64, number_of, AreBytes};
-ghost use Rattle.pb_bytes.specs.Varint.{varint};
+ghost use Rattle.pb_bytes.specs.Varint.{varint, field};
 
 /// No varint begins another: a number has one, and what follows it is determined.
 pub fn one_varint()
     ensures { (m n : ℕ) (x y : List ℕ) → m < 2 ^ 64 → n < 2 ^ 64
         → varint m ++ x ≡ varint n ++ y → (m ≡ n) × (x ≡ y) }
+{}
+
+/// No field begins another.
+pub fn one_field()
+    ensures { (a b x y : List ℕ) → length a < 2 ^ 64 → length b < 2 ^ 64
+        → field a ++ x ≡ field b ++ y → (a ≡ b) × (x ≡ y) }
 {}
 
 /// Every four bytes are the spelling of the number that they read as, and of no other.

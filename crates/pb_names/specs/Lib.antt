@@ -1,1 +1,3 @@
 pub mod Identity
+pub mod Padding
+pub mod Spelling

@@ -1,7 +1,16 @@
 -- What tells shared objects apart.
-use Rattle.std.specs.Prelude.{ℕ}
+use Rattle.std.specs.Prelude.{ℕ, ◌≤◌, ◌<◌, ◌^◌}
 
 -- the store that created the object, and the number that this store drew for it
 pub record Identity : Type 0 where
   pub creator : ℕ
   pub number : ℕ
+
+-- a store of the family, A to H
+abbrev pub IsStore : ℕ → Type 0
+IsStore store = (1 ≤ store) × (store ≤ 8)
+
+-- an object that a store of the family can have made
+pub record IsObject (object : Identity) : Type 0 where
+  pub creator : IsStore object.creator
+  pub number : object.number < 2 ^ 62

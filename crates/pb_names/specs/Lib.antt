@@ -1,3 +1,4 @@
+pub mod Grammar
 pub mod Identity
 pub mod Padding
 pub mod Spelling

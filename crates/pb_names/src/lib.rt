@@ -1,12 +1,19 @@
 //! The names of files, objects and markers: one spelling each.
 #![tactic(auto)]
 
+mod external_object;
 mod file_kind;
 mod files;
 mod name;
 mod object_id;
+mod shared_object;
 
+pub use external_object::{MAX_NAME_LEN, external, is_name};
 pub use file_kind::FileKind;
 pub use files::{current, file};
 pub use name::Name;
 pub use object_id::ObjectId;
+pub use shared_object::{marker, marker_prefix, object};
+
+#[cfg(test)]
+mod tests;

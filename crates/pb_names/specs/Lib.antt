@@ -1,4 +1,5 @@
 pub mod Grammar
 pub mod Identity
+pub mod Named
 pub mod Padding
 pub mod Spelling

@@ -4,6 +4,7 @@
 mod external_object;
 mod file_kind;
 mod files;
+pub mod laws;
 mod name;
 mod object_id;
 mod shared_object;

@@ -1,0 +1,6 @@
+pub mod Order
+pub mod Key
+pub mod KeyLaws
+pub mod Span
+pub mod View
+pub mod Map

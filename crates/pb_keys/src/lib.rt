@@ -2,5 +2,11 @@
 #![tactic(auto)]
 
 mod bytes;
+mod key;
+mod span;
+mod view;
 
 pub use bytes::Bytes;
+pub use key::{Key, KeyError, MAX_KEY};
+pub use span::{MAX_END, Span, SpanError};
+pub use view::View;

@@ -1,0 +1,30 @@
+-- Spans of keys, half open, by the keys' prefixes.
+use Rattle.std.specs.Prelude.{◌≢◌, ℕ, ◌≤◌, List, length, Bool, ◌&&◌, All, IsTrue}
+use Rattle.pb_keys.specs.Order.{is_below, is_upto}
+use Rattle.pb_keys.specs.Key.{at_sign, prefix_of}
+
+pub record KeySpan : Type 0 where
+  pub lo : List ℕ
+  pub hi : List ℕ
+
+abbrev pub span_of : List ℕ → List ℕ → KeySpan
+span_of lo hi = record { lo = lo; hi = hi }
+
+-- 1 to 1,025 bytes without '@'
+pub record IsEnd (bytes : List ℕ) : Type 0 where
+  pub some : 1 ≤ length bytes
+  pub within : length bytes ≤ 1025
+  pub plain : All (λ b. b ≢ at_sign) bytes
+
+pub record IsSpan (span : KeySpan) : Type 0 where
+  pub lo : IsEnd span.lo
+  pub hi : IsEnd span.hi
+  pub rises : IsTrue (is_below span.lo span.hi)
+
+-- whether the span holds the key: its prefix p has lo <= p < hi
+unfoldable pub holds_key : KeySpan → List ℕ → Bool
+holds_key span key = is_upto span.lo (prefix_of key) && is_below (prefix_of key) span.hi
+
+-- whether each begins before the other ends
+unfoldable pub overlap : KeySpan → KeySpan → Bool
+overlap a b = is_below a.lo b.hi && is_below b.lo a.hi

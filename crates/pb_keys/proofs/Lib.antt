@@ -1,2 +1,4 @@
 pub mod KeyFacts
+pub mod MapFacts
 pub mod OrderFacts
+pub mod SpanFacts

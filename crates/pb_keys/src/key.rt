@@ -176,3 +176,6 @@ impl Eq for Key {
 
     ghost laws = { nat_list_eq_equiv };
 }
+
+#[cfg(test)]
+mod tests;

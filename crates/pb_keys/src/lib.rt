@@ -3,6 +3,7 @@
 
 mod bytes;
 mod key;
+pub mod laws;
 mod span;
 mod view;
 

@@ -112,3 +112,6 @@ fn is_end(bytes: &[u8]) -> bool
 {
     !bytes.is_empty() && bytes.len() <= MAX_END && !bytes.contains(&AT)
 }
+
+#[cfg(test)]
+mod tests;

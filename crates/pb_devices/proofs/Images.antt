@@ -62,6 +62,7 @@ pub others_kept : (old new : Contents) (name : List ℕ) → OthersStay old new 
 others_kept old new name stay = record {
   reads = λ other apart. (stay other apart).seen;
   images = λ other image apart. stays_image old new other image (stay other apart);
+  settled = λ other apart. stays_settled old new other (stay other apart);
 }
 
 pub stays_kept : (old new : Contents) (name : List ℕ) → Stays old new → KeepsOthers old new name
@@ -76,18 +77,21 @@ pub barred_kept : (old new : Contents) (name : List ℕ) → ((other : List ℕ)
 barred_kept old new name seen barred = record {
   reads = λ other _. barred.seen other;
   images = λ other image _. barred_image old new other image (seen other) barred;
+  settled = λ other _ _. barred.settled other;
 }
 
 pub kept_same : (disk : Contents) (name : List ℕ) → KeepsOthers disk disk name
 kept_same disk name = record {
   reads = λ other _. refl;
   images = λ other image _ left. left;
+  settled = λ other _ settled. settled;
 }
 
 pub kept_then : (first mid last : Contents) (name : List ℕ) → KeepsOthers first mid name → KeepsOthers mid last name → KeepsOthers first last name
 kept_then first mid last name a b = record {
   reads = λ other apart. b.reads other apart ∙ a.reads other apart;
   images = λ other image apart left. a.images other image apart (b.images other image apart left);
+  settled = λ other apart settled. b.settled other apart (a.settled other apart settled);
 }
 
 part_none : (durable : List ℕ) (pending : ℕ → Type 0) (seen image : Option (List ℕ)) → seen ≡ None → IsPart durable pending seen image → image ≡ None

@@ -41,7 +41,8 @@ pub record IsSettled (disk : Contents) (name : List ℕ) : Type 0 where
   pub whole : (at : ℕ) → disk.pending name at → ⊥
   pub last : (image : Option (List ℕ)) → disk.earlier name image → ⊥
 
--- of every other name, reads give the same and no image is new
+-- of every other name, reads give the same, no image is new, and what was durable alone is
 pub record KeepsOthers (old new : Contents) (name : List ℕ) : Type 0 where
   pub reads : (other : List ℕ) → (other ≡ name → ⊥) → new.seen other ≡ old.seen other
   pub images : (other : List ℕ) (image : Option (List ℕ)) → (other ≡ name → ⊥) → MayLeave new other image → MayLeave old other image
+  pub settled : (other : List ℕ) → (other ≡ name → ⊥) → IsSettled old other → IsSettled new other

@@ -1,0 +1,7 @@
+use Rattle.std.proofs.Common.{◌≡◌, ◌++◌, take}
+use Rattle.std.specs.List.{flat_map}
+use Rattle.pb_reply.specs.Printed.{table_line}
+use Rattle.pb_reply.proofs.printing.append_tables.Given as goal
+
+abbrev pub invariant-loop-table : goal.invariant-loop-table
+invariant-loop-table l = l.out.items ≡ l.fn.out.items ++ flat_map table_line (take l.table-index l.tables)

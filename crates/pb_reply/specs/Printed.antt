@@ -1,0 +1,66 @@
+-- What is printed for a reply.
+use Rattle.std.specs.Prelude.{ℕ, ◌/◌, ◌%◌, ◌==◌, Bool, ◌&&◌, not, if◌then◌else◌, nat_le, List, [], ◌∷◌, ◌++◌, length, codes}
+use Rattle.std.specs.Char.{digit_char}
+use Rattle.std.specs.Fmt.{decimal}
+use Rattle.std.specs.List.{flat_map}
+use Rattle.pb_reply.specs.Listing.{Listing}
+use Rattle.pb_reply.specs.Pair.{Pair}
+use Rattle.pb_reply.specs.Refusals.{carried, name_of, number_of}
+use Rattle.pb_reply.specs.declared.refusal.Refusal.{Refusal}
+use Rattle.pb_reply.specs.declared.reply.Reply.{Reply}
+use Rattle.pb_reply.specs.declared.reply.Reply.TheVariants.{Opened, Closed, Stopped, Accepted, Value, Absent, Rows, Done, Table, Exported, Lent, Dropped, Pinned, Unpinned, Started, Working, Released, Levels, Objects, Calls, Refused}
+
+-- from 0x21 to 0x7E and not `%`
+abbrev pub is_plain : ℕ → Bool
+is_plain byte = nat_le 33 byte && nat_le byte 126 && not (byte == 37)
+
+-- a plain byte as itself, another as `%` and two lower-case hexadecimal digits
+abbrev pub printed_byte : ℕ → List ℕ
+printed_byte byte = if is_plain byte then byte ∷ [] else 37 ∷ digit_char (byte / 16) ∷ digit_char (byte % 16) ∷ []
+
+-- a byte string: byte by byte, and `%` for the empty string
+abbrev pub word : List ℕ → List ℕ
+word [] = codes "%"
+word (byte ∷ bytes) = flat_map printed_byte (byte ∷ bytes)
+
+abbrev pub line : List ℕ → List ℕ
+line text = text ++ codes "\n"
+
+abbrev pub pair_line : Pair → List ℕ
+pair_line pair = line (word pair.key ++ codes " " ++ word pair.value)
+
+abbrev pub kind_word : Bool → List ℕ
+kind_word is_virtual = if is_virtual then codes "virtual" else codes "physical"
+
+abbrev pub table_line : Listing → List ℕ
+table_line table = line (codes "L" ++ decimal table.level ++ codes " " ++ decimal table.number ++ codes " " ++ word table.lo ++ codes " " ++ word table.hi
+    ++ codes " " ++ kind_word table.is_virtual ++ codes " " ++ decimal table.backing)
+
+abbrev pub name_line : List ℕ → List ℕ
+name_line name = line (word name)
+
+abbrev pub refusal_line : Refusal → List ℕ
+refusal_line refusal = line (codes "refused " ++ decimal (number_of refusal) ++ codes " " ++ name_of refusal ++ carried refusal)
+
+abbrev pub printed : Reply → List ℕ
+printed (Opened count) = line (codes "opened " ++ decimal count)
+printed Closed = line (codes "closed")
+printed Stopped = line (codes "stopped")
+printed (Accepted count) = line (codes "ok " ++ decimal count)
+printed (Value value) = line (codes "value " ++ word value)
+printed Absent = line (codes "none")
+printed (Rows pairs) = flat_map pair_line pairs ++ line (codes "rows " ++ decimal (length pairs))
+printed Done = line (codes "done")
+printed (Table name) = line (codes "table " ++ word name)
+printed Exported = line (codes "exported")
+printed (Lent name) = line (codes "lent " ++ word name)
+printed Dropped = line (codes "dropped")
+printed (Pinned name) = line (codes "pinned " ++ word name)
+printed Unpinned = line (codes "unpinned")
+printed Started = line (codes "started")
+printed Working = line (codes "working")
+printed Released = line (codes "released")
+printed (Levels tables) = flat_map table_line tables ++ line (codes "tables " ++ decimal (length tables))
+printed (Objects names) = flat_map name_line names ++ line (codes "objects " ++ decimal (length names))
+printed (Calls calls) = line (codes "calls " ++ decimal calls)
+printed (Refused refusal) = refusal_line refusal

@@ -1,1 +1,3 @@
 pub mod SignFacts
+pub mod Remainders
+pub mod TableFacts

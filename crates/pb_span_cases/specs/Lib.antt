@@ -1,2 +1,3 @@
 pub mod Relation
+pub mod Remainder
 pub mod Signs

@@ -3,5 +3,12 @@
 
 pub mod laws;
 mod relations;
+mod remainder;
+mod table;
 
 pub use relations::{Rel, relation};
+pub use remainder::{Ends, minus};
+pub use table::{CASES, Case, Cases, Part};
+
+#[cfg(test)]
+mod tests;

@@ -1,0 +1,154 @@
+-- The table, computed once over its lines, and what that says of each line.
+use Rattle.std.proofs.Common.{◌≡◌, ℕ, zero, suc, ◌<◌, List, [], ◌∷◌, length, Bool, true, false, refl, sym, ap, ◌∙◌, ◌&&◌, arith}
+use Rattle.std.specs.List.{list_all, slice_index_or}
+use Rattle.std.proofs.lemmas.Bool.{and_parts}
+use Rattle.std.specs.Cmp.Lexicographic.{nat_list_cmp_total}
+use Rattle.std.specs.Ordering.{is_lt, is_gt, ordering_reverse}
+use Rattle.std.specs.declared.cmp.Ordering.{Ordering}
+use Rattle.std.specs.declared.cmp.Ordering.TheVariants.{Less, Equal, Greater}
+use Rattle.pb_keys.specs.Order.{bytes_cmp, is_below}
+use Rattle.pb_keys.specs.Span.{KeySpan, IsSpan}
+use Rattle.pb_span_cases.specs.Relation.{IsCase}
+use Rattle.pb_span_cases.specs.Remainder.{IsLine, ends_of, number_of}
+use Rattle.pb_span_cases.specs.Signs.{Signs, signs_of}
+use Rattle.pb_span_cases.specs.declared.relations.Rel.{Rel}
+use Rattle.pb_span_cases.specs.declared.relations.Rel.TheVariants as rels
+use Rattle.pb_span_cases.specs.declared.table.Case.{Case}
+use Rattle.pb_span_cases.specs.declared.table.Part.{Part}
+use Rattle.pb_span_cases.specs.declared.table.Part.TheVariants.{Nothing, Whole, LoToCut, CutToHi}
+use Rattle.pb_span_cases.specs.declared.table.TheConstants.{CASES}
+use Rattle.pb_span_cases.proofs.Remainders.{left_by, right_by, left_part, right_part}
+use Rattle.pb_span_cases.proofs.SignFacts.{signs, signs-case}
+
+abbrev same_part : Part → Part → Bool
+same_part Nothing Nothing = true
+same_part Whole Whole = true
+same_part LoToCut LoToCut = true
+same_part CutToHi CutToHi = true
+same_part _ _ = false
+
+-- a line names the parts that its relation's comparisons ask for
+abbrev overlaps_by : Signs → Bool
+overlaps_by s = is_gt s.back && is_gt s.front
+
+abbrev is_right : Case → Bool
+is_right line =
+    same_part line.left (left_by (overlaps_by (signs_of line.rel)) (is_lt (signs_of line.rel).starts))
+    && same_part line.right (right_by (overlaps_by (signs_of line.rel)) (is_gt (signs_of line.rel).ends))
+
+-- the test, over all thirteen lines
+pub table_is_right : list_all is_right CASES.lines ≡ true
+table_is_right = refl
+
+-- what a test of every line says of one of them
+passes : (test : Case → Bool) (lines : List Case) (k : ℕ) (line : Case) → k < length lines → list_all test lines ≡ true
+    → test (slice_index_or lines k line) ≡ true
+passes test [] k line within all = absurd (omega arith)
+passes test (first ∷ lines) zero line within all = (and_parts (test first) (list_all test lines) all).0
+passes test (first ∷ lines) (suc k) line within all =
+    passes test lines k line (omega arith) (and_parts (test first) (list_all test lines) all).1
+
+line_is_right : (line : Case) → IsLine line → is_right line ≡ true
+unfolding IsLine
+line_is_right line (k, within, is_line) =
+    ap is_right (sym is_line) ∙ passes is_right CASES.lines k line within table_is_right
+
+same_part_is : (p q : Part) → same_part p q ≡ true → p ≡ q
+same_part_is Nothing Nothing h = refl
+same_part_is Whole Whole h = refl
+same_part_is LoToCut LoToCut h = refl
+same_part_is CutToHi CutToHi h = refl
+same_part_is p q h = absurd (cc)
+
+turned : (o : Ordering) → is_gt (ordering_reverse o) ≡ is_lt o
+turned Less = refl
+turned Equal = refl
+turned Greater = refl
+
+greater-is_below : (x y : List ℕ) → is_gt (bytes_cmp y x) ≡ is_below x y
+greater-is_below x y = ap is_gt (nat_list_cmp_total.antisymm y x) ∙ turned (bytes_cmp x y)
+
+-- the comparisons say whether the spans overlap
+overlaps_by-signs : (table cut : KeySpan) → overlaps_by (signs table cut) ≡ (is_below table.lo cut.hi && is_below cut.lo table.hi)
+overlaps_by-signs table cut =
+    λ i. greater-is_below table.lo cut.hi i && greater-is_below cut.lo table.hi i
+
+-- the line whose relation holds names the parts that stay
+pub line-left : (line : Case) (table cut : KeySpan) → IsSpan table → IsSpan cut → IsLine line → IsCase line.rel table cut
+    → line.left ≡ left_part table cut
+line-left line table cut table_is cut_is listed holds =
+    let tests = and_parts _ _ (line_is_right line listed) in
+    let same = signs-case line.rel table cut table_is.rises cut_is.rises holds in
+    same_part_is _ _ tests.0
+    ∙ ap (λ (s : Signs). left_by (overlaps_by s) (is_lt s.starts)) (sym same)
+    ∙ ap (λ (overlaps : Bool). left_by overlaps (is_below table.lo cut.lo)) (overlaps_by-signs table cut)
+
+pub line-right : (line : Case) (table cut : KeySpan) → IsSpan table → IsSpan cut → IsLine line → IsCase line.rel table cut
+    → line.right ≡ right_part table cut
+line-right line table cut table_is cut_is listed holds =
+    let tests = and_parts _ _ (line_is_right line listed) in
+    let same = signs-case line.rel table cut table_is.rises cut_is.rises holds in
+    same_part_is _ _ tests.1
+    ∙ ap (λ (s : Signs). right_by (overlaps_by s) (is_gt s.ends)) (sym same)
+    ∙ (λ i. right_by (overlaps_by-signs table cut i) (greater-is_below cut.hi table.hi i))
+
+-- a line names what stays
+pub record NamesParts (line : Case) (table cut : KeySpan) : Type 0 where
+  pub left : ends_of line.left table cut ≡ ends_of (left_part table cut) table cut
+  pub right : ends_of line.right table cut ≡ ends_of (right_part table cut) table cut
+
+pub names_parts : (line : Case) (rel : Rel) (table cut : KeySpan) → IsSpan table → IsSpan cut → IsLine line → line.rel ≡ rel → IsCase rel table cut
+    → NamesParts line table cut
+names_parts line rel table cut table_is cut_is listed named holds =
+    let its_case : IsCase line.rel table cut = rw named holds in
+    record {
+      left = ap (λ (part : Part). ends_of part table cut) (line-left line table cut table_is cut_is listed its_case);
+      right = ap (λ (part : Part). ends_of part table cut) (line-right line table cut table_is cut_is listed its_case);
+    }
+
+-- the line in the place of a relation is its own
+pub named_line : (r : Rel) (other : Case) → (slice_index_or CASES.lines (number_of r) other).rel ≡ r
+named_line rels.Before other = refl
+named_line rels.Meets other = refl
+named_line rels.After other = refl
+named_line rels.MetBy other = refl
+named_line rels.Equal other = refl
+named_line rels.Starts other = refl
+named_line rels.During other = refl
+named_line rels.Finishes other = refl
+named_line rels.StartedBy other = refl
+named_line rels.FinishedBy other = refl
+named_line rels.Overlaps other = refl
+named_line rels.OverlappedBy other = refl
+named_line rels.Contains other = refl
+
+pub number_of-below : (r : Rel) → number_of r < 13
+number_of-below rels.Before = omega arith
+number_of-below rels.Meets = omega arith
+number_of-below rels.After = omega arith
+number_of-below rels.MetBy = omega arith
+number_of-below rels.Equal = omega arith
+number_of-below rels.Starts = omega arith
+number_of-below rels.During = omega arith
+number_of-below rels.Finishes = omega arith
+number_of-below rels.StartedBy = omega arith
+number_of-below rels.FinishedBy = omega arith
+number_of-below rels.Overlaps = omega arith
+number_of-below rels.OverlappedBy = omega arith
+number_of-below rels.Contains = omega arith
+
+pub listed_line : (r : Rel) (other : Case) → IsLine (slice_index_or CASES.lines (number_of r) other)
+unfolding IsLine
+listed_line rels.Before other = (0, omega arith, refl)
+listed_line rels.Meets other = (1, omega arith, refl)
+listed_line rels.After other = (2, omega arith, refl)
+listed_line rels.MetBy other = (3, omega arith, refl)
+listed_line rels.Equal other = (4, omega arith, refl)
+listed_line rels.Starts other = (5, omega arith, refl)
+listed_line rels.During other = (6, omega arith, refl)
+listed_line rels.Finishes other = (7, omega arith, refl)
+listed_line rels.StartedBy other = (8, omega arith, refl)
+listed_line rels.FinishedBy other = (9, omega arith, refl)
+listed_line rels.Overlaps other = (10, omega arith, refl)
+listed_line rels.OverlappedBy other = (11, omega arith, refl)
+listed_line rels.Contains other = (12, omega arith, refl)

@@ -1,0 +1,251 @@
+-- A new entry under a number that wasn't used keeps a steady world steady.
+use Rattle.std.proofs.Common.{◌≡◌, ℕ, ◌≤◌, true, false, ◌⊎◌, inl, inr, Option, Some, None, refl, sym, ap, ◌∙◌, subst}
+use Rattle.std.specs.Prelude.{slice_get, ◌==◌}
+use Rattle.std.proofs.lemmas.Bool.{both_ways, false≢true, false_from_ne_true, or_left, or_right, cases_eq, eq-eqb}
+use Rattle.pb_names.specs.Identity.{Identity}
+use Rattle.pb_marker_world.specs.declared.stages.Stage.TheVariants.{Intended, Put, Held, Counted}
+use Rattle.pb_marker_world.specs.Machine.{Marker, Entry, Part, Lending, World, local_of, with_local, entry_at, identity, own_marker}
+use Rattle.pb_marker_world.specs.Steps.{IsOffered, MayIntend, with_part, with_entry, with_used}
+use Rattle.pb_marker_world.specs.Sound.{shows_marker, may_show_marker, is_beginning, is_put, IsDoomed, IsLent, IsLentSafely, HoldsUnder, IsFresh, IsSteady}
+use Rattle.pb_marker_world.proofs.Worlds.{place_cases, part_here, part_there, entry_set, entry_kept, opening_kept}
+use Rattle.pb_marker_world.proofs.Tests.{same_some}
+use Rattle.pb_marker_world.proofs.Moves.{IsAnswered, S7_objects_from, S7_markers_from}
+
+abbrev pub intended : Identity → Option Marker → Entry
+intended o lender = record { object = o; lender = lender; stage = Intended }
+
+abbrev pub part_intending : Part → ℕ → Identity → Option Marker → Part
+part_intending part n o lender = with_entry (with_used part n) n (Some (intended o lender))
+
+module _ (w : World) (s n : ℕ) (o : Identity) (lender : Option Marker) (b : IsSteady w)
+    (unused : (w.parts s).used n ≡ false) (may : MayIntend s (local_of w s) n o lender) where
+  abbrev v : World
+  v = with_local w s (with_part (local_of w s) (part_intending (w.parts s) n o lender))
+
+  back : (t k : ℕ) (x : Entry) → entry_at v t k ≡ Some x
+      → ((t ≡ s) × (k ≡ n) × (x ≡ intended o lender)) ⊎ (entry_at w t k ≡ Some x)
+  back t k x p =
+      let l = with_part (local_of w s) (part_intending (w.parts s) n o lender) in
+      elim (place_cases t k s n) [
+        | inl a ↦ inl (
+          a.0,
+          a.1,
+          same_some x (intended o lender)
+              (sym p ∙ entry_set w s n l (Some (intended o lender)) (λ k. refl) t k a.0 a.1),
+        )
+        | inr a ↦ inr (sym (entry_kept w s n l (Some (intended o lender)) (λ k. refl) t k a) ∙ p)
+      ]
+
+  forth : (t k : ℕ) (x : Entry) → entry_at w t k ≡ Some x → entry_at v t k ≡ Some x
+  forth t k x p =
+      let l = with_part (local_of w s) (part_intending (w.parts s) n o lender) in
+      elim (place_cases t k s n) [
+        | inl a ↦ absurd (both_ways ((w.parts s).used n) unused
+            (ap (λ y. (w.parts s).used y) (sym a.1) ∙ (ap (λ y. (w.parts y).used k) (sym a.0) ∙ (b.sound.S7_entries t k x p).0)))
+        | inr a ↦ entry_kept w s n l (Some (intended o lender)) (λ k. refl) t k a ∙ p
+      ]
+
+  opening : (t : ℕ) → (v.parts t).opening ≡ (w.parts t).opening
+  opening t = opening_kept w s (with_part (local_of w s) (part_intending (w.parts s) n o lender)) refl t
+
+  used_more : (t k : ℕ) → (w.parts t).used k ≡ true → (v.parts t).used k ≡ true
+  used_more t k p =
+      let l = with_part (local_of w s) (part_intending (w.parts s) n o lender) in
+      elim (cases_eq t s) [
+        | inl q ↦ ap (λ (x : Part). x.used k) (part_here w s l t q)
+            ∙ or_right (k == n) ((w.parts s).used k) (ap (λ y. (w.parts y).used k) (sym q) ∙ p)
+        | inr q ↦ ap (λ (x : Part). x.used k) (part_there w s l t q) ∙ p
+      ]
+
+  used_here : (t k : ℕ) → t ≡ s → k ≡ n → (v.parts t).used k ≡ true
+  used_here t k q r =
+      let l = with_part (local_of w s) (part_intending (w.parts s) n o lender) in
+      ap (λ (x : Part). x.used k) (part_here w s l t q) ∙ or_left (k == n) ((w.parts s).used k) (eq-eqb k n r)
+
+  -- the object is one that the number makes, or a handle offers a marker of it
+  origin : (o ≡ identity s n) ⊎ ((m : Marker) × IsOffered w.lendings m × (m.object ≡ o))
+  origin = go lender may
+    where
+      go : (x : Option Marker) → MayIntend s (local_of w s) n o x
+          → (o ≡ identity s n) ⊎ ((m : Marker) × IsOffered w.lendings m × (m.object ≡ o))
+      go None p = inl p
+      go (Some m) p = inr (m, p.0, p.1)
+
+  from_handle : (m : Marker) → lender ≡ Some m → IsOffered w.lendings m × (m.object ≡ o)
+  from_handle m q = subst (λ x. MayIntend s (local_of w s) n o x) q may
+
+  alone_own : lender ≡ None → o ≡ identity s n
+  alone_own q = subst (λ x. MayIntend s (local_of w s) n o x) q may
+
+  -- no number that is used makes the new object
+  not_used : (x : Identity) → x ≡ identity s n → (w.parts x.creator).used x.number ≡ true → ⊥
+  not_used x q p =
+      both_ways ((w.parts s).used n) unused (ap (λ (y : Identity). (w.parts y.creator).used y.number) (sym q) ∙ p)
+
+  object_used : (v.parts o.creator).used o.number ≡ true
+  object_used =
+      elim origin [
+        | inl q ↦ used_here o.creator o.number (ap (λ (y : Identity). y.creator) q) (ap (λ (y : Identity). y.number) q)
+        | inr q ↦ used_more o.creator o.number
+            (ap (λ (y : Identity). (w.parts y.creator).used y.number) (sym q.2) ∙ (b.sound.S3 q.0 (inl q.1)).object_number)
+      ]
+
+  doomed_back : (q : Identity) → IsDoomed v q → IsDoomed w q
+  doomed_back q d =
+      elim (back d.0 d.1 d.2 d.3) [
+        | inl r ↦ let clash : Intended ≡ Counted = ap (λ (y : Entry). y.stage) (sym r.2) ∙ d.5 in absurd (cc)
+        | inr r ↦ (d.0, d.1, d.2, r, d.4, d.5)
+      ]
+
+  lent_back : (m : Marker) → IsLent v m → IsLent w m
+  lent_back m l =
+      elim l [
+        | inl d ↦ inl d
+        | inr d ↦ elim (back d.0 d.1 d.2 d.3) [
+          | inl r ↦ inl (from_handle m (ap (λ (y : Entry). y.lender) (sym r.2) ∙ d.4)).0
+          | inr r ↦ inr (d.0, d.1, d.2, r, d.4)
+        ]
+      ]
+
+  new_S1 : (t k : ℕ) (x : Entry) → entry_at v t k ≡ Some x → shows_marker x.stage ≡ true
+      → w.names.markers (own_marker t k x) ≡ true
+  new_S1 t k x p q =
+      elim (back t k x p) [
+        | inl r ↦ absurd (false≢true (ap (λ (y : Entry). shows_marker y.stage) (sym r.2) ∙ q))
+        | inr r ↦ b.sound.S1 t k x r q
+      ]
+
+  new_S2 : (t k : ℕ) (x : Entry) → entry_at v t k ≡ Some x → x.stage ≡ Held
+      → (w.names.objects x.object ≡ true) × (IsDoomed v x.object → ⊥)
+  new_S2 t k x p q =
+      elim (back t k x p) [
+        | inl r ↦ let clash : Intended ≡ Held = ap (λ (y : Entry). y.stage) (sym r.2) ∙ q in absurd (cc)
+        | inr r ↦ let u = b.sound.S2 t k x r q in (u.0, λ d. u.1 (doomed_back x.object d))
+      ]
+
+  new_S3 : (m : Marker) → IsLent v m → IsLentSafely v m
+  new_S3 m l =
+      let g = b.sound.S3 m (lent_back m l) in
+      record {
+        number = used_more m.store m.number g.number;
+        object_number = used_more m.object.creator m.object.number g.object_number;
+        arrived = λ x p q. elim (back m.store m.number x p) [
+          | inl r ↦ absurd (both_ways ((w.parts s).used n) unused
+              (ap (λ y. (w.parts s).used y) (sym r.1) ∙ (ap (λ y. (w.parts y).used m.number) (sym r.0) ∙ g.number)))
+          | inr r ↦ g.arrived x r q
+        ];
+        stands = g.stands;
+        safe = λ p d. g.safe p (doomed_back m.object d);
+      }
+
+  new_S4 : (h : ℕ) (g : Lending) (k : ℕ) (m : Marker) → slice_get w.lendings h ≡ Some g → g.is_open ≡ true
+      → g.opening ≡ (v.parts g.store).opening → slice_get g.markers k ≡ Some m → HoldsUnder v g.store m
+  new_S4 h g k m p a q r =
+      let u = b.sound.S4 h g k m p a (q ∙ opening g.store) r in
+      (u.0, forth g.store m.number u.0 u.1, u.2, u.3)
+
+  new_S5 : (m : Marker) → w.names.markers m ≡ true
+      → (e : Entry) × (entry_at v m.store m.number ≡ Some e) × (e.object ≡ m.object) × (may_show_marker e.stage ≡ true)
+  new_S5 m p = let u = b.sound.S5 m p in (u.0, forth m.store m.number u.0 u.1, u.2, u.3)
+
+  new_S6 : (q : Identity) → w.names.objects q ≡ true → IsAnswered v q
+  new_S6 q p = let u = b.sound.S6 q p in (u.0, u.1, u.2, forth u.0 u.1 u.2 u.3, u.4, u.5)
+
+  new_S7 : (t k : ℕ) (x : Entry) → entry_at v t k ≡ Some x
+      → ((v.parts t).used k ≡ true) × ((v.parts x.object.creator).used x.object.number ≡ true)
+  new_S7 t k x p =
+      elim (back t k x p) [
+        | inl r ↦ (
+          used_here t k r.0 r.1,
+          ap (λ (y : Entry). (v.parts y.object.creator).used y.object.number) r.2 ∙ object_used,
+        )
+        | inr r ↦ let u = b.sound.S7_entries t k x r in (used_more t k u.0, used_more x.object.creator x.object.number u.1)
+      ]
+
+  own_object : (t k : ℕ) (x : Entry) → t ≡ s → k ≡ n → x.object ≡ identity t k → x.object ≡ identity s n
+  own_object t k x p q r = r ∙ (λ i. record { creator = p i; number = q i })
+
+  fresh_here : (t k : ℕ) (x : Entry) → t ≡ s → k ≡ n → x.object ≡ identity s n → x.stage ≡ Intended → IsFresh v t k x
+  fresh_here t k x ts kn same st =
+      record {
+        unmarked = λ m q. false_from_ne_true (w.names.markers m) (λ y.
+            not_used m.object (q ∙ same) (b.sound.S7_markers m y).1);
+        alone = λ t2 k2 x2 p2 o2. elim (back t2 k2 x2 p2) [
+          | inl r ↦ (r.0 ∙ sym ts, r.1 ∙ sym kn)
+          | inr r ↦ absurd (not_used x2.object (o2 ∙ same) (b.sound.S7_entries t2 k2 x2 r).1)
+        ];
+        unlent = λ m d q. not_used m.object (q ∙ same) (b.sound.S3 m (inl d)).object_number;
+        present =
+            false_from_ne_true (w.names.objects x.object) (λ y. not_used x.object same (b.sound.S7_objects x.object y))
+            ∙ sym (ap is_put st);
+      }
+
+  fresh_there : (t k : ℕ) (x : Entry) → entry_at w t k ≡ Some x → IsFresh w t k x → IsFresh v t k x
+  fresh_there t k x p fresh =
+      record {
+        unmarked = fresh.unmarked;
+        alone = λ t2 k2 x2 p2 o2. elim (back t2 k2 x2 p2) [
+          | inl r ↦
+              let same : o ≡ x.object = ap (λ (y : Entry). y.object) (sym r.2) ∙ o2 in
+              absurd (elim origin [
+                | inl q ↦ not_used x.object (sym same ∙ q) (b.sound.S7_entries t k x p).1
+                | inr q ↦ fresh.unlent q.0 q.1 (q.2 ∙ same)
+              ])
+          | inr r ↦ fresh.alone t2 k2 x2 r o2
+        ];
+        unlent = fresh.unlent;
+        present = fresh.present;
+      }
+
+  new_S8 : (t k : ℕ) (x : Entry) → entry_at v t k ≡ Some x → x.object ≡ identity t k → is_beginning x.stage ≡ true
+      → IsFresh v t k x
+  new_S8 t k x p q r =
+      elim (back t k x p) [
+        | inl z ↦ fresh_here t k x z.0 z.1 (own_object t k x z.0 z.1 q) (ap (λ (y : Entry). y.stage) z.2)
+        | inr z ↦ fresh_there t k x z (b.sound.S8 t k x z q r)
+      ]
+
+  new_makes_own : (t k : ℕ) (x : Entry) → entry_at v t k ≡ Some x → x.stage ≡ Intended → x.lender ≡ None
+      → x.object ≡ identity t k
+  new_makes_own t k x p q r =
+      elim (back t k x p) [
+        | inl z ↦ ap (λ (y : Entry). y.object) z.2
+            ∙ (alone_own (ap (λ (y : Entry). y.lender) (sym z.2) ∙ r) ∙ (λ i. record { creator = sym z.0 i; number = sym z.1 i }))
+        | inr z ↦ b.makes_own t k x z q r
+      ]
+
+  new_put_own : (t k : ℕ) (x : Entry) → entry_at v t k ≡ Some x → x.stage ≡ Put
+      → (x.object ≡ identity t k) × (x.lender ≡ None)
+  new_put_own t k x p q =
+      elim (back t k x p) [
+        | inl z ↦ let clash : Intended ≡ Put = ap (λ (y : Entry). y.stage) (sym z.2) ∙ q in absurd (cc)
+        | inr z ↦ b.put_own t k x z q
+      ]
+
+  new_same_object : (t k : ℕ) (x : Entry) (m : Marker) → entry_at v t k ≡ Some x → x.lender ≡ Some m → m.object ≡ x.object
+  new_same_object t k x m p q =
+      elim (back t k x p) [
+        | inl z ↦ (from_handle m (ap (λ (y : Entry). y.lender) (sym z.2) ∙ q)).1 ∙ ap (λ (y : Entry). y.object) (sym z.2)
+        | inr z ↦ b.same_object t k x m z q
+      ]
+
+  pub intend_steady : IsSteady v
+  intend_steady =
+      record {
+        sound = record {
+          S1 = new_S1;
+          S2 = new_S2;
+          S3 = new_S3;
+          S4 = new_S4;
+          S5 = new_S5;
+          S6 = new_S6;
+          S7_entries = new_S7;
+          S7_objects = S7_objects_from v new_S6 new_S7;
+          S7_markers = S7_markers_from v new_S5 new_S7;
+          S8 = new_S8;
+        };
+        makes_own = new_makes_own;
+        put_own = new_put_own;
+        same_object = new_same_object;
+        past = λ h g p. subst (λ x. g.opening ≤ x) (sym (opening g.store)) (b.past h g p);
+      }

@@ -1,0 +1,12 @@
+pub mod Worlds
+pub mod Moves
+pub mod Tests
+pub mod MoveSteps
+pub mod Quiet
+pub mod Intends
+pub mod Drops
+pub mod Crashes
+pub mod Steady
+pub mod Lists
+pub mod Books
+pub mod Done

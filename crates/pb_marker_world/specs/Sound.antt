@@ -1,0 +1,115 @@
+-- When a world is sound, and what besides keeps it so.
+use Rattle.std.specs.Prelude.{◌≡◌, ℕ, ◌≤◌, Bool, true, false, ◌⊎◌, Some, None, slice_get}
+use Rattle.pb_names.specs.Identity.{Identity}
+use Rattle.pb_marker_world.specs.declared.stages.Stage.{Stage}
+use Rattle.pb_marker_world.specs.declared.stages.Stage.TheVariants.{Intended, Put, Marked, Held, Loose, Counted, Ended}
+use Rattle.pb_marker_world.specs.Machine.{Marker, Entry, Lending, World, entry_at, identity, own_marker}
+use Rattle.pb_marker_world.specs.Steps.{IsOffered}
+
+-- Marked or Held
+abbrev pub shows_marker : Stage → Bool
+shows_marker Marked = true
+shows_marker Held = true
+shows_marker _ = false
+
+-- Marked, Held or Loose
+abbrev pub may_show_marker : Stage → Bool
+may_show_marker Marked = true
+may_show_marker Held = true
+may_show_marker Loose = true
+may_show_marker _ = false
+
+-- Intended, Put or Marked
+abbrev pub is_on_its_way : Stage → Bool
+is_on_its_way Intended = true
+is_on_its_way Put = true
+is_on_its_way Marked = true
+is_on_its_way _ = false
+
+-- Intended or Put
+abbrev pub is_beginning : Stage → Bool
+is_beginning Intended = true
+is_beginning Put = true
+is_beginning _ = false
+
+abbrev pub is_put : Stage → Bool
+is_put Put = true
+is_put _ = false
+
+-- neither Intended nor Ended
+abbrev pub answers_for_object : Stage → Bool
+answers_for_object Intended = false
+answers_for_object Ended = false
+answers_for_object _ = true
+
+-- an entry of the object is Counted, so the object may be deleted at any time
+abbrev pub IsDoomed : World → Identity → Type 0
+IsDoomed w o =
+    (s : ℕ) × (n : ℕ) × (e : Entry) × (entry_at w s n ≡ Some e) × (e.object ≡ o) × (e.stage ≡ Counted)
+
+-- a handle, open or dropped, lends the marker, or it is the lender's marker of an entry
+abbrev pub IsLent : World → Marker → Type 0
+IsLent w m =
+    IsOffered w.lendings m
+    ⊎ ((s : ℕ) × (n : ℕ) × (e : Entry) × (entry_at w s n ≡ Some e) × (e.lender ≡ Some m))
+
+pub record IsLentSafely (w : World) (m : Marker) : Type 0 where
+  pub number : (w.parts m.store).used m.number ≡ true
+  pub object_number : (w.parts m.object.creator).used m.object.number ≡ true
+  pub arrived : (e : Entry) → entry_at w m.store m.number ≡ Some e → e.object ≡ m.object → is_on_its_way e.stage ≡ false
+  pub stands : w.names.markers m ≡ true → w.names.objects m.object ≡ true
+  pub safe : w.names.markers m ≡ true → IsDoomed w m.object → ⊥
+
+-- the store has a Held entry with this marker
+abbrev pub HoldsUnder : World → ℕ → Marker → Type 0
+HoldsUnder w store m =
+    (e : Entry) × (entry_at w store m.number ≡ Some e) × (e.stage ≡ Held) × (m ≡ own_marker store m.number e)
+
+-- the entry makes its own object, which nobody else knows of yet
+pub record IsFresh (w : World) (s n : ℕ) (e : Entry) : Type 0 where
+  pub unmarked : (m : Marker) → m.object ≡ e.object → w.names.markers m ≡ false
+  pub alone : (t k : ℕ) (f : Entry) → entry_at w t k ≡ Some f → f.object ≡ e.object → (t ≡ s) × (k ≡ n)
+  pub unlent : (m : Marker) → IsOffered w.lendings m → m.object ≡ e.object → ⊥
+  pub present : w.names.objects e.object ≡ is_put e.stage
+
+pub record IsSound (w : World) : Type 0 where
+  -- the own marker of a Marked or Held entry is present
+  pub S1 : (s n : ℕ) (e : Entry) → entry_at w s n ≡ Some e → shows_marker e.stage ≡ true
+      → w.names.markers (own_marker s n e) ≡ true
+  -- the object of a Held entry is present and isn't doomed
+  pub S2 : (s n : ℕ) (e : Entry) → entry_at w s n ≡ Some e → e.stage ≡ Held
+      → (w.names.objects e.object ≡ true) × (IsDoomed w e.object → ⊥)
+  -- a marker that is lent has used numbers and belongs to no entry on its way; while it is present, its object is, and isn't doomed
+  pub S3 : (m : Marker) → IsLent w m → IsLentSafely w m
+  -- each entry that an open handle of its store's present opening lends is Held
+  pub S4 : (h : ℕ) (g : Lending) (k : ℕ) (m : Marker) → slice_get w.lendings h ≡ Some g → g.is_open ≡ true
+      → g.opening ≡ (w.parts g.store).opening → slice_get g.markers k ≡ Some m → HoldsUnder w g.store m
+  -- each marker present belongs to an entry that is Marked, Held or Loose
+  pub S5 : (m : Marker) → w.names.markers m ≡ true
+      → (e : Entry) × (entry_at w m.store m.number ≡ Some e) × (e.object ≡ m.object) × (may_show_marker e.stage ≡ true)
+  -- each object present has an entry that is neither Intended nor Ended
+  pub S6 : (o : Identity) → w.names.objects o ≡ true
+      → (s : ℕ) × (n : ℕ) × (e : Entry) × (entry_at w s n ≡ Some e) × (e.object ≡ o) × (answers_for_object e.stage ≡ true)
+  -- all numbers in entries, objects and markers are used by their store
+  pub S7_entries : (s n : ℕ) (e : Entry) → entry_at w s n ≡ Some e
+      → ((w.parts s).used n ≡ true) × ((w.parts e.object.creator).used e.object.number ≡ true)
+  pub S7_objects : (o : Identity) → w.names.objects o ≡ true → (w.parts o.creator).used o.number ≡ true
+  pub S7_markers : (m : Marker) → w.names.markers m ≡ true
+      → ((w.parts m.store).used m.number ≡ true) × ((w.parts m.object.creator).used m.object.number ≡ true)
+  -- an object whose creating entry is Intended or Put has no marker, no other entry and no handle, and is present exactly in Put
+  pub S8 : (s n : ℕ) (e : Entry) → entry_at w s n ≡ Some e → e.object ≡ identity s n → is_beginning e.stage ≡ true
+      → IsFresh w s n e
+
+-- a sound world that every step keeps so
+pub record IsSteady (w : World) : Type 0 where
+  pub sound : IsSound w
+  -- an Intended entry without a lender makes its own object
+  pub makes_own : (s n : ℕ) (e : Entry) → entry_at w s n ≡ Some e → e.stage ≡ Intended → e.lender ≡ None
+      → e.object ≡ identity s n
+  -- a Put entry makes its own object, and has no lender
+  pub put_own : (s n : ℕ) (e : Entry) → entry_at w s n ≡ Some e → e.stage ≡ Put
+      → (e.object ≡ identity s n) × (e.lender ≡ None)
+  -- the lender's marker is one of the entry's object
+  pub same_object : (s n : ℕ) (e : Entry) (m : Marker) → entry_at w s n ≡ Some e → e.lender ≡ Some m → m.object ≡ e.object
+  -- no handle is from an opening that hasn't come yet
+  pub past : (h : ℕ) (g : Lending) → slice_get w.lendings h ≡ Some g → g.opening ≤ (w.parts g.store).opening

@@ -1,0 +1,17 @@
+//! The marker world: stores that share one bucket, and never each other's folders, keep every object that one of them holds.
+#![tactic(auto)]
+
+mod edits;
+mod events;
+pub mod laws;
+mod marker_world;
+mod place_list;
+mod records;
+mod scans;
+mod stages;
+mod stages_of;
+
+pub use events::{Event, Lender, Outcome, WorldError};
+pub use marker_world::World;
+pub use place_list::Places;
+pub use stages::Stage;

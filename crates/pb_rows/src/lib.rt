@@ -1,0 +1,13 @@
+//! Layers: rows and deletions of spans, which are applied to maps and read at a key.
+#![tactic(auto)]
+
+mod check;
+mod copies;
+mod hull;
+mod layer;
+mod look;
+mod row;
+
+pub use layer::{Layer, RowsError};
+pub use look::Found;
+pub use row::{MAX_VALUE, Row};

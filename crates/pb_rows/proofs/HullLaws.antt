@@ -1,6 +1,6 @@
 -- Hulls: of two lists, and of a list whose ends ascend.
 use Rattle.std.proofs.Common.{◌≡◌, ℕ, zero, suc, ◌+◌, ◌-◌, ◌<◌, ◌≤◌, List, [], ◌∷◌, ◌++◌, length, get_or, Bool, true, false, cond, refl, sym, ap, ◌∙◌, subst, arith, inl, inr}
-use Rattle.std.specs.Prelude.{Option, Some, None, map, All, ◌&&◌, ◌||◌}
+use Rattle.std.specs.Prelude.{Option, Some, None, map, All, ◌↔◌, ◌&&◌, ◌||◌}
 use Rattle.std.proofs.lemmas.Bool.{cases_lt}
 use Rattle.std.proofs.lemmas.List.{get_or_default}
 use Rattle.pb_keys.specs.Order.{is_below, end_above}
@@ -8,8 +8,8 @@ use Rattle.pb_keys.specs.Key.{IsKey, prefix_of}
 use Rattle.pb_keys.specs.Span.{KeySpan, IsEnd, IsSpan, span_of}
 use Rattle.pb_keys.proofs.OrderFacts.{below_itself, below_one_way, below_upto, below_chain, same_bytes}
 use Rattle.pb_keys.proofs.KeyFacts.{prefixes_ascend, ends_above_ascend, prefixes_are_span}
-use Rattle.pb_rows.specs.Layer.{KeyRow, AreApart, Rise}
-use Rattle.pb_rows.specs.Hull.{either_hull, hull_of_spans, span_at}
+use Rattle.pb_rows.specs.Layer.{KeyRow, KeyLayer, layer_of, AreApart, Rise}
+use Rattle.pb_rows.specs.Hull.{either_hull, hull_of_spans, hull_of, span_at}
 use Rattle.pb_rows.specs.Over.{lesser, greater, joined}
 use Rattle.pb_rows.proofs.Bits.{both_groups, either_groups}
 use Rattle.pb_rows.proofs.LookLaws.{rows_rise, spans_follow}
@@ -160,3 +160,23 @@ joined_is_span s t is_s is_t = record {
     | false ↦ first_true (is_below s.lo s.hi) (is_below s.lo t.hi) is_s.rises
   ];
 }
+
+-- ---- none at all
+
+some_hull : (s : KeySpan) (b : Option KeySpan) → either_hull (Some s) b ≡ None → ⊥
+some_hull s None e = cc
+some_hull s (Some t) e = cc
+
+pub no_spans : (spans : List KeySpan) → hull_of_spans spans ≡ None → spans ≡ []
+no_spans [] e = refl
+no_spans (s ∷ ss) e = absurd (some_hull s (hull_of_spans ss) e)
+
+-- the empty layer alone has no hull
+pub no_hull : (layer : KeyLayer) → (hull_of layer ≡ None) ↔ (layer ≡ layer_of [] [])
+unfolding hull_of
+no_hull layer = (λ e. both_empty layer.dels layer.rows (no_spans (layer.dels ++ map span_at layer.rows) e), λ e. ap (λ l. hull_of_spans (l.dels ++ map span_at l.rows)) e)
+  where
+    both_empty : (dels : List KeySpan) (rows : List KeyRow) → dels ++ map span_at rows ≡ [] → layer_of dels rows ≡ layer_of [] []
+    both_empty [] [] e = refl
+    both_empty [] (r ∷ rs) e = cc
+    both_empty (s ∷ ss) rows e = cc

@@ -5,3 +5,5 @@ pub mod VerdictLaws
 pub mod LookLaws
 pub mod CheckLaws
 pub mod HullLaws
+pub mod ChangingLaws
+pub mod ViewLaws

@@ -78,7 +78,7 @@ verdicts-append [] older key = refl
 verdicts-append (layer ∷ newer) older key =
     ap (option_or (verdict layer key)) (verdicts-append newer older key) ∙ sym (option_or_groups (verdict layer key) (verdicts newer key) (verdicts older key))
 
-one_after_other : (a b : Verdict) (old : Option (List ℕ)) → unwrap_or a (unwrap_or b old) ≡ unwrap_or (option_or a b) old
+pub one_after_other : (a b : Verdict) (old : Option (List ℕ)) → unwrap_or a (unwrap_or b old) ≡ unwrap_or (option_or a b) old
 one_after_other (Some answer) b old = refl
 one_after_other None b old = refl
 

@@ -28,6 +28,10 @@ mapped_span view span = span_of (view.prefix ++ span.lo) (view.prefix ++ span.hi
 abbrev pub part_within : KeySpan → KeySpan → List KeySpan
 part_within bounds span = if overlap bounds span then span_of (greater bounds.lo span.lo) (lesser bounds.hi span.hi) ∷ [] else []
 
+-- bounds alone
+abbrev pub plain_view : KeySpan → KeyView
+plain_view bounds = record { bounds = bounds; prefix = []; suffix = [] }
+
 -- the mapped spans cut to the bounds, and the mapped rows whose keys the bounds hold
 unfoldable pub viewed : KeyView → KeyLayer → KeyLayer
 viewed view layer =

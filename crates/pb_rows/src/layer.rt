@@ -109,3 +109,6 @@ impl Layer {
         Ok(Layer { dels, rows })
     }
 }
+
+#[cfg(test)]
+mod tests;

@@ -4,6 +4,7 @@
 mod check;
 mod copies;
 mod hull;
+pub mod laws;
 mod layer;
 mod look;
 mod row;

@@ -1,4 +1,5 @@
-ghost use Rattle.std.specs.Prelude.{◌≡◌, IfOk};
+ghost use Rattle.std.specs.Prelude.{◌≡◌, ◌↔◌, IsTrue, IfOk};
+ghost use Rattle.pb_rows.specs.Layer.{IsShort};
 
 use pb_keys::{Bytes, Key};
 use std::alloc::{AllocError, Global};
@@ -23,6 +24,16 @@ impl Model for Row {
 }
 
 impl Row {
+    /// Whether the value, if there is one, has at most 65,536 bytes.
+    pub fn is_short(&self) -> bool
+        ensures { IsTrue result ↔ IsShort self.now }
+    {
+        match &self.value {
+            None => true,
+            Some(bytes) => bytes.as_slice().len() <= MAX_VALUE,
+        }
+    }
+
     /// Another value of the same row.
     pub fn copy(&self, alloc: Global) -> Result<Row, AllocError>
         ensures ok { IfOk result (λ row. row ≡ self.now) }

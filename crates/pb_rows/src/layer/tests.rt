@@ -74,38 +74,48 @@ fn plain_get<'a>(layer: &'a Layer, key: &Key) -> Found<'a> {
     Found::Absent
 }
 
+// The refusal of these spans and rows.
+fn refusal(
+    alloc: Global,
+    ends: &[(&str, &str)],
+    texts: &[(&str, Option<&str>)],
+) -> Result<Option<RowsError>, Fail> {
+    let dels = dels_of(alloc, ends)?;
+    let rows = rows_of(alloc, texts)?;
+    match Layer::new(alloc, dels, rows) {
+        Ok(_) => Ok(None),
+        Err(error) => Ok(Some(error)),
+    }
+}
+
+// Whether the layer and the plain scan answer alike.
+fn agrees(alloc: Global, layer: &Layer, text: &str) -> Result<bool, Fail> {
+    let key = Key::new(alloc, text.as_bytes())?;
+    let same = layer.get(&key) == plain_get(layer, &key);
+    Ok(same)
+}
+
+fn has_hull(alloc: Global, layer: &Layer, lo: &str, hi: &str) -> Result<bool, Fail> {
+    match layer.hull(alloc)? {
+        Some(hull) => Ok(hull.lo() == lo.as_bytes() && hull.hi() == hi.as_bytes()),
+        None => Ok(false),
+    }
+}
+
 #[test]
 fn layers_out_of_order_are_refused(rt: HostRuntime) -> Result<(), Fail> {
     let alloc = rt.alloc();
-    for ends in [
-        [("a", "b"), ("b", "c")],
-        [("a", "c"), ("b", "d")],
-        [("c", "d"), ("a", "b")],
-    ] {
-        let rows = rows_of(alloc, &[("a", None)])?;
-        match Layer::new(alloc, dels_of(alloc, &ends)?, rows) {
-            Err(error) => assert_eq!(rt; error, RowsError::BadDels, "{ends:?}"),
-            Ok(_) => panic!(rt; "a layer of {ends:?}"),
-        }
+    for ends in [("b", "d"), ("a", "b"), ("c", "d")] {
+        let found = refusal(alloc, &[("b", "c"), ends], &[("a", None)])?;
+        assert_eq!(rt; found, Some(RowsError::BadDels), "{ends:?}");
     }
-    for (keys, place) in [
-        (["a", "a@1", "a@1", "a!"], 2),
-        (["a!", "a@1", "b", "a"], 1),
-        (["a", "b", "c", "b@1"], 3),
-    ] {
-        let rows = rows_of(
+    for last in ["b@1", "b", "a!", "a"] {
+        let found = refusal(
             alloc,
-            &[
-                (keys[0], Some("0")),
-                (keys[1], None),
-                (keys[2], Some("")),
-                (keys[3], None),
-            ],
+            &[("a", "b"), ("b\0", "c")],
+            &[("a!", Some("")), ("b@1", None), (last, None)],
         )?;
-        match Layer::new(alloc, dels_of(alloc, &[("a", "b"), ("b\0", "c")])?, rows) {
-            Err(error) => assert_eq!(rt; error, RowsError::BadRow(place), "{keys:?}"),
-            Ok(_) => panic!(rt; "a layer of {keys:?}"),
-        }
+        assert_eq!(rt; found, Some(RowsError::BadRow(2)), "{last}");
     }
     Ok(())
 }
@@ -125,46 +135,28 @@ fn layers_are_read_as_a_plain_scan_does(rt: HostRuntime) -> Result<(), Fail> {
         ],
     )?;
     let copy = layer.copy(alloc)?;
+    assert_eq!(rt; copy.rows().len(), 5);
     for text in [
         "!", "a", "a@1", "b", "b@2", "b@3", "b!", "c", "c@9", "d", "d@1", "ez", "f", "g", "h",
     ] {
-        let key = Key::new(alloc, text.as_bytes())?;
-        assert_eq!(rt; layer.get(&key), plain_get(&layer, &key), "{text}");
-        assert_eq!(rt; copy.get(&key), plain_get(&layer, &key), "{text}");
+        assert!(rt; agrees(alloc, &layer, text)?, "{text}");
+        assert!(rt; agrees(alloc, &copy, text)?, "{text} in the copy");
     }
     let own = Key::new(alloc, b"b@2")?;
-    assert_eq!(rt; layer.get(&own), Found::Value(b"2".as_slice()));
-    assert_eq!(rt; copy.rows().len(), 5);
+    assert!(rt; layer.get(&own) == Found::Value(b"2".as_slice()));
     Ok(())
 }
 
 #[test]
 fn the_hull_ends_above_the_last_prefix(rt: HostRuntime) -> Result<(), Fail> {
     let alloc = rt.alloc();
+    let row = layer_of(alloc, &[], &[("b@3", None)])?;
+    assert!(rt; has_hull(alloc, &row, "b", "b\0")?);
+    let dels = layer_of(alloc, &[("b", "c"), ("d", "e")], &[])?;
+    assert!(rt; has_hull(alloc, &dels, "b", "e")?);
+    let both = layer_of(alloc, &[("b", "c")], &[("a@1", Some("1")), ("cz@2", None)])?;
+    assert!(rt; has_hull(alloc, &both, "a", "cz\0")?);
     let empty = layer_of(alloc, &[], &[])?;
     assert!(rt; empty.hull(alloc)?.is_none());
-    let cases = [
-        (layer_of(alloc, &[], &[("b@3", None)])?, "b", "b\0"),
-        (layer_of(alloc, &[("b", "c"), ("d", "e")], &[])?, "b", "e"),
-        (
-            layer_of(alloc, &[("b", "c")], &[("a@1", Some("1")), ("b", None)])?,
-            "a",
-            "c",
-        ),
-        (
-            layer_of(alloc, &[("b", "c")], &[("b!", Some("1")), ("cz@2", None)])?,
-            "b",
-            "cz\0",
-        ),
-    ];
-    for (layer, lo, hi) in &cases {
-        match layer.hull(alloc)? {
-            Some(hull) => {
-                assert_eq!(rt; hull.lo(), lo.as_bytes());
-                assert_eq!(rt; hull.hi(), hi.as_bytes());
-            }
-            None => panic!(rt; "no hull from {lo} to {hi}"),
-        }
-    }
     Ok(())
 }

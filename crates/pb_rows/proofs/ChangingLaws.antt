@@ -1,7 +1,7 @@
 -- What each changing command does to a map, read at a key.
-use Rattle.std.proofs.Common.{◌≡◌, ℕ, List, [], ◌∷◌, ◌++◌, Bool, true, false, cond, refl, sym, ap, ◌∙◌, reverse}
+use Rattle.std.proofs.Common.{◌≡◌, ℕ, List, [], ◌∷◌, true, false, cond, refl, sym, ap, ◌∙◌, reverse}
 use Rattle.std.proofs.lemmas.List.{reverse-append}
-use Rattle.std.specs.Prelude.{Option, Some, None, unwrap_or}
+use Rattle.std.specs.Prelude.{Some, None, unwrap_or}
 use Rattle.std.specs.Option.{option_or}
 use Rattle.std.specs.Ordering.{eq_by_cmp}
 use Rattle.std.specs.FinMap.{get, get-insert, entries, get-entries}
@@ -12,7 +12,7 @@ use Rattle.pb_keys.specs.Span.{KeySpan, holds_key}
 use Rattle.pb_keys.specs.Map.{Map, without}
 use Rattle.pb_keys.proofs.MapFacts.{get-without}
 use Rattle.pb_rows.specs.Layer.{KeyLayer}
-use Rattle.pb_rows.specs.Verdict.{Verdict, verdict, verdicts}
+use Rattle.pb_rows.specs.Verdict.{verdict, verdicts}
 use Rattle.pb_rows.specs.Applied.{applied, applied_in_turn}
 use Rattle.pb_rows.specs.Changing.{with_pairs}
 use Rattle.pb_rows.proofs.VerdictLaws.{get-applied, verdicts-append, option_or_none, one_after_other}

@@ -1,8 +1,7 @@
 -- What lists of rows say of a key.
 use Rattle.std.proofs.Common.{◌≡◌, ℕ, List, [], ◌∷◌, Bool, true, false, cond, refl, sym, ap, ◌∙◌, subst}
-use Rattle.std.specs.Prelude.{Option, Some, None, filter}
+use Rattle.std.specs.Prelude.{Some, None, filter}
 use Rattle.std.specs.Option.{option_or}
-use Rattle.std.specs.declared.cmp.Ordering.{Ordering}
 use Rattle.std.specs.declared.cmp.Ordering.TheVariants.{Less, Equal, Greater}
 use Rattle.std.specs.FinMap.Entries.{by_order}
 use Rattle.std.specs.Ordering.{eq_by_cmp, is_eq}
@@ -11,7 +10,7 @@ use Rattle.pb_keys.specs.Key.{key_cmp}
 use Rattle.pb_keys.specs.KeyLaws.{key_cmp_total, key_cmp_exact}
 use Rattle.pb_rows.specs.Layer.{KeyRow}
 use Rattle.pb_rows.specs.Over.{with_row, rows_over}
-use Rattle.pb_rows.specs.Verdict.{Verdict, row_verdict}
+use Rattle.pb_rows.specs.Verdict.{row_verdict}
 
 pub same_key : (a b : List ℕ) → eq_by_cmp key_cmp a b ≡ true → a ≡ b
 same_key a b e = key_cmp_exact a b ((Equal-is (key_cmp a b)).0 e)

@@ -3,9 +3,7 @@ use Rattle.std.proofs.Common.{◌≡◌, ℕ, List, [], ◌∷◌, ◌++◌, Boo
 use Rattle.std.specs.Prelude.{not, ◌||◌, Option, Some, None, unwrap_or, filter}
 use Rattle.std.specs.Option.{option_or}
 use Rattle.std.specs.Ordering.{eq_by_cmp}
-use Rattle.std.specs.FinMap.{get, get-retain_keys, get-insert, get-remove, entries, get-entries}
-use Rattle.std.specs.FinMap.Entries.{find}
-use Rattle.std.proofs.Common.{reverse}
+use Rattle.std.specs.FinMap.{get, get-retain_keys, get-insert, get-remove}
 use Rattle.pb_keys.specs.Key.{key_cmp}
 use Rattle.pb_keys.specs.KeyLaws.{key_cmp_total}
 use Rattle.pb_keys.specs.Span.{KeySpan}
@@ -13,8 +11,8 @@ use Rattle.pb_keys.specs.Map.{Map}
 use Rattle.pb_keys.proofs.SpanFacts.{alike_keys}
 use Rattle.pb_rows.specs.Layer.{KeyRow, KeyLayer, layer_of}
 use Rattle.pb_rows.specs.Verdict.{Verdict, row_verdict, is_covered, verdict, verdicts}
-use Rattle.pb_rows.specs.Applied.{without_all, with_value, with_rows, applied, applied_newest_first, applied_in_turn}
-use Rattle.pb_rows.specs.Over.{over, union_of, rows_over}
+use Rattle.pb_rows.specs.Applied.{without_all, with_value, with_rows, applied, applied_newest_first}
+use Rattle.pb_rows.specs.Over.{over}
 use Rattle.pb_rows.proofs.Bits.{turned}
 use Rattle.pb_rows.proofs.SpanLaws.{is_covered-union_of}
 use Rattle.pb_rows.proofs.RowLaws.{row_verdict-rows_over, row_verdict-filter}

@@ -1,18 +1,17 @@
 -- A layer seen through bounds alone.
 use Rattle.std.proofs.Common.{◌≡◌, ℕ, List, [], ◌∷◌, ◌++◌, Bool, true, false, cond, refl, sym, ap, ◌∙◌}
-use Rattle.std.specs.Prelude.{Option, Some, None, map, filter, not, ◌&&◌, ◌||◌}
+use Rattle.std.specs.Prelude.{Some, None, map, filter, not, ◌&&◌, ◌||◌}
 use Rattle.std.specs.List.{flat_map}
 use Rattle.std.specs.Option.{option_or}
 use Rattle.pb_keys.specs.Order.{is_below}
 use Rattle.pb_keys.specs.Key.{prefix_of}
 use Rattle.pb_keys.specs.Span.{KeySpan, holds_key, overlap, span_of}
-use Rattle.pb_keys.specs.View.{KeyView}
 use Rattle.pb_keys.proofs.OrderFacts.{upto_below}
 use Rattle.pb_keys.proofs.SpanFacts.{holds_key-ends, overlap-ends}
 use Rattle.pb_rows.specs.Layer.{KeyRow, KeyLayer}
 use Rattle.pb_rows.specs.Over.{lesser, greater}
 use Rattle.pb_rows.specs.Verdict.{Verdict, row_verdict, is_covered, verdict}
-use Rattle.pb_rows.specs.Viewed.{viewed, plain_view, mapped_row, mapped_span, part_within}
+use Rattle.pb_rows.specs.Viewed.{viewed, plain_view, mapped_row, part_within}
 use Rattle.pb_rows.proofs.RowLaws.{row_verdict-filter}
 use Rattle.pb_rows.proofs.SpanLaws.{below-lesser, below-greater}
 

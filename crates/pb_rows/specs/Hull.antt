@@ -1,5 +1,5 @@
 -- The hull of a layer: from its least prefix or deletion's start to its greatest deletion's end or least end above a prefix.
-use Rattle.std.specs.Prelude.{ℕ, List, [], ◌∷◌, ◌++◌, map, Option, Some, None}
+use Rattle.std.specs.Prelude.{List, [], ◌∷◌, ◌++◌, map, Option, Some, None}
 use Rattle.pb_keys.specs.Order.{end_above}
 use Rattle.pb_keys.specs.Key.{prefix_of}
 use Rattle.pb_keys.specs.Span.{KeySpan, span_of}

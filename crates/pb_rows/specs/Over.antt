@@ -1,5 +1,5 @@
 -- A newer layer over an older one.
-use Rattle.std.specs.Prelude.{ℕ, List, [], ◌∷◌, Bool, not, if◌then◌else◌, filter}
+use Rattle.std.specs.Prelude.{ℕ, List, [], ◌∷◌, not, if◌then◌else◌, filter}
 use Rattle.std.specs.FinMap.Entries.{by_order}
 use Rattle.pb_keys.specs.Order.{is_below}
 use Rattle.pb_keys.specs.Key.{key_cmp}

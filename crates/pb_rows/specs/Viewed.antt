@@ -1,7 +1,6 @@
 -- A layer seen through a view.
-use Rattle.std.specs.Prelude.{◌≡◌, ℕ, List, [], ◌∷◌, ◌++◌, map, filter, All, IsTrue, if◌then◌else◌}
+use Rattle.std.specs.Prelude.{◌≡◌, ℕ, List, [], ◌∷◌, ◌++◌, map, filter, All, if◌then◌else◌}
 use Rattle.std.specs.List.{AllPairs, flat_map}
-use Rattle.pb_keys.specs.Order.{is_below}
 use Rattle.pb_keys.specs.Key.{IsKey, prefix_of}
 use Rattle.pb_keys.specs.Span.{KeySpan, IsSpan, span_of, holds_key, overlap}
 use Rattle.pb_keys.specs.View.{KeyView}

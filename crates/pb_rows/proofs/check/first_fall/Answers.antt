@@ -1,4 +1,4 @@
-use Rattle.std.proofs.Common.{◌≡◌, ◌<◌, ◌+◌, true, false, ap, sym, ◌∙◌, arith, subst}
+use Rattle.std.proofs.Common.{ap, sym, ◌∙◌, arith, subst}
 use Rattle.std.specs.Ordering.{is_le}
 use Rattle.pb_keys.specs.Key.{IsKey, key_cmp}
 use Rattle.pb_rows.proofs.CheckLaws.{fall_at, rise_more, keys_more}

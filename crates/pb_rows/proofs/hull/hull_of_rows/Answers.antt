@@ -1,4 +1,4 @@
-use Rattle.std.proofs.Common.{◌≡◌, ◌∙◌, ◌++◌, ◌∷◌, [], sym, ap, subst, arith, Some, ◌<◌, length}
+use Rattle.std.proofs.Common.{◌≡◌, ◌∙◌, sym, ap, subst, arith, Some, ◌<◌, length}
 use Rattle.pb_keys.specs.Key.{prefix_of}
 use Rattle.pb_keys.specs.Order.{end_above}
 use Rattle.pb_keys.specs.Span.{IsSpan, span_of}

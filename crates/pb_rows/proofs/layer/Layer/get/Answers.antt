@@ -1,6 +1,5 @@
-use Rattle.std.proofs.Common.{◌≡◌, ◌∙◌, sym, ap, subst, Some, None}
-use Rattle.pb_rows.specs.Layer.{layer_of}
-use Rattle.pb_rows.specs.Verdict.{row_verdict, is_covered, verdict}
+use Rattle.std.proofs.Common.{◌∙◌, ap}
+use Rattle.pb_rows.specs.Verdict.{row_verdict, verdict}
 use Rattle.pb_rows.proofs.VerdictLaws.{verdict_by_row, verdict_by_spans}
 use Rattle.pb_rows.proofs.layer.Layer.get.Goals as goal
 

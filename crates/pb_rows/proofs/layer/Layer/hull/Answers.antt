@@ -1,4 +1,4 @@
-use Rattle.std.proofs.Common.{◌≡◌, ◌∙◌, ◌++◌, sym, ap, map}
+use Rattle.std.proofs.Common.{◌∙◌, sym, ap, map}
 use Rattle.pb_rows.specs.Hull.{either_hull, hull_of_spans, hull_of, span_at}
 use Rattle.pb_rows.proofs.HullLaws.{hull_of_spans-append}
 use Rattle.pb_rows.proofs.layer.Layer.hull.Goals as goal

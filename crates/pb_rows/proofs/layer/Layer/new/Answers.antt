@@ -1,6 +1,5 @@
-use Rattle.std.proofs.Common.{◌≡◌, ℕ, sym, subst, rules}
+use Rattle.std.proofs.Common.{◌≡◌, subst, rules}
 use Rattle.pb_rows.specs.Layer.{IsFirstFall, Rise}
-use Rattle.pb_rows.specs.declared.layer.RowsError.TheVariants.{BadRow}
 use Rattle.pb_rows.proofs.CheckLaws.{first_fall_is_one, no_fall}
 use Rattle.pb_rows.proofs.layer.Layer.new.Goals as goal
 

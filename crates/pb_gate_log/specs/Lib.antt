@@ -1,0 +1,4 @@
+pub mod Payloads
+pub mod LogFile
+pub mod EachLog
+pub mod Steps

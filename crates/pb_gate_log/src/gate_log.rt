@@ -1,0 +1,150 @@
+ghost use Rattle.std.specs.Prelude.{◌≡◌, ◌≢◌, ◌↔◌, ◌⊎◌, ℕ, ◌+◌, ◌^◌, ◌<◌, ◌≤◌, ◌++◌, [], ◌∷◌, true, List, length, Option, None, Ok, Err, IsSome, IfOk, OnOk, OnErr};
+ghost use Rattle.pb_devices.specs.Counts.{HasCause, Rose};
+ghost use Rattle.pb_devices.specs.Contents.{MayLeave, IsSettled, KeepsOthers};
+ghost use Rattle.pb_gate_log.specs.Payloads.{HasList};
+ghost use Rattle.pb_gate_log.specs.EachLog.{EachHas, EachLog};
+
+use crate::close::close;
+use crate::decode::decode;
+use crate::reads::read_whole;
+use crate::writes::{write_entry, write_synced};
+use pb_devices::{Disk, Failed, Fault};
+use pb_keys::Bytes;
+use pb_names::Name;
+use std::alloc::Global;
+use std::marker::Model;
+
+/// The longest payload, in bytes.
+pub const MAX_PAYLOAD: usize = 67_108_864;
+
+/// Last gates stand below this place.
+const PLACES: u64 = 1 << 62;
+
+/// A list of payloads in one file of a disk, open to append to.
+///
+/// Between two calls every image that a power cut may leave of the file has exactly the list. The bytes stand in
+/// docs/FORMATS.md, "Gate log", and what they mean in docs/MODEL.md, "Gate log". Contracts see the file's name and the
+/// place of the last gate.
+#[derive(Debug, Drop)]
+pub struct GateLog {
+    file: Name,
+    gate: u64,
+}
+
+/// Why nothing was appended, or perhaps nothing.
+#[derive(Clone, Copy, Debug, PartialEq, Eq, thiserror::Error)]
+pub enum AppendError {
+    #[error("the disk failed")]
+    Failed,
+    #[error("the payload has more than 64 MiB, or the file would reach 2^62 bytes")]
+    TooLarge,
+}
+
+impl From<Failed> for AppendError {
+    ghost use Rattle.std.specs.Prelude.{◌≡◌};
+    ghost use Rattle.pb_gate_log.specs.declared.gate_log.AppendError.TheVariants.{Failed};
+
+    ghost from_gives = { λ _ error. error ≡ Failed };
+
+    fn from(_failed: Failed) -> AppendError {
+        AppendError::Failed
+    }
+}
+
+impl Model for GateLog {
+    ghost use Rattle.std.specs.Prelude.{◌<◌, ◌^◌};
+    ghost use Rattle.pb_gate_log.specs.EachLog.{LogPlace};
+
+    ghost Value = { LogPlace };
+
+    ghost view = { λ log. record { file = log.file; gate = log.gate } };
+
+    ghost invariant = { λ log. log.gate < 2 ^ 62 };
+}
+
+impl GateLog {
+    /// Makes a log with no payload: four device calls. After `Failed` the file is not there, or it has no payload.
+    pub fn create<D: Disk>(disk: &mut D, file: Name) -> Result<GateLog, Failed>
+        requires { D.told ≡ true → (D.contents disk.old).seen file ≡ None }
+        ensures place { IfOk result (λ log. log ≡ record { file = file; gate = 0 }) }
+        ensures ok { D.told ≡ true → IfOk result (λ log. EachLog log [] (D.contents disk.new)) }
+
+        // Each image was one before, or is a log with no payload.
+        ensures crash { D.told ≡ true → (image : Option (List ℕ)) → MayLeave (D.contents disk.new) file image
+            → MayLeave (D.contents disk.old) file image ⊎ HasList [] image }
+        ensures others { D.told ≡ true → KeepsOthers (D.contents disk.old) (D.contents disk.new) file }
+        ensures cause { HasCause (D.fault_count disk.old) (D.fault_count disk.new) result }
+    {
+        let name = file.as_str();
+        disk.create(name)?;
+        write_synced(disk, name, 0, &[0])?;
+        disk.barrier()?;
+        Ok(GateLog { file, gate: 0 })
+    }
+
+    /// Opens the log of a file with any bytes, of which nothing is pending, and gives its payloads in order. It shuts the
+    /// last gate where that stands open or torn; the list stays the same whether it succeeds or fails.
+    pub fn open<D: Disk>(
+        alloc: Global,
+        disk: &mut D,
+        file: Name,
+    ) -> Result<(GateLog, Vec<Bytes>), Fault>
+        requires there { D.told ≡ true → IsSome ((D.contents disk.old).seen file) }
+        requires settled { D.told ≡ true → IsSettled (D.contents disk.old) file }
+        ensures name { IfOk result (λ opened. opened.0.file ≡ file) }
+        ensures place { IfOk result (λ opened. opened.0.gate < 2 ^ 62) }
+        ensures list { D.told ≡ true → IfOk result (λ opened. HasList opened.1.items ((D.contents disk.old).seen file)) }
+        ensures ok { D.told ≡ true → IfOk result (λ opened. EachLog opened.0 opened.1.items (D.contents disk.new)) }
+        ensures crash { D.told ≡ true → (list : List (List ℕ)) → HasList list ((D.contents disk.old).seen file)
+            → EachHas list (D.contents disk.new) file }
+        ensures others { D.told ≡ true → KeepsOthers (D.contents disk.old) (D.contents disk.new) file }
+        ensures later { D.fault_count disk.old ≤ D.fault_count disk.new }
+        ensures failed { result ≡ Err Fault.Disk → Rose (D.fault_count disk.old) (D.fault_count disk.new) }
+        ensures bucket { result ≢ Err Fault.Bucket }
+    {
+        let name = file.as_str();
+        let bytes = read_whole(alloc, disk, name)?;
+        let Ok((payloads, gate)) = decode(alloc, &bytes) else {
+            return Err(Fault::NoMemory);
+        };
+        let gate = gate as u64;
+        if gate >= PLACES {
+            return Err(Fault::NoMemory);
+        }
+        let Ok(()) = close(disk, name, &bytes, gate) else {
+            return Err(Fault::Disk);
+        };
+        Ok((GateLog { file, gate }, payloads))
+    }
+
+    /// Appends a payload: six device calls, five for an empty one. After `Failed` the list has it or not, and the log is
+    /// to be opened again. `TooLarge` makes no device call. It takes no memory.
+    pub fn append<D: Disk>(&mut self, disk: &mut D, payload: &[u8]) -> Result<(), AppendError>
+        requires { D.told ≡ true → (list : List (List ℕ)) × EachLog self.old list (D.contents disk.old) }
+        ensures place { OnOk result (self.new ≡ record self.old { gate = self.old.gate + 5 + length payload.now }) }
+        ensures same { OnErr result (self.new ≡ self.old) }
+        ensures ok { D.told ≡ true → (list : List (List ℕ)) → EachLog self.old list (D.contents disk.old)
+            → OnOk result (EachLog self.new (list ++ payload.now ∷ []) (D.contents disk.new)) }
+
+        // Each image has the list, or the list and the payload.
+        ensures crash { D.told ≡ true → (list : List (List ℕ)) (image : Option (List ℕ))
+            → EachLog self.old list (D.contents disk.old) → MayLeave (D.contents disk.new) self.old.file image
+            → HasList list image ⊎ HasList (list ++ payload.now ∷ []) image }
+        ensures others { D.told ≡ true → KeepsOthers (D.contents disk.old) (D.contents disk.new) self.old.file }
+        ensures later { D.fault_count disk.old ≤ D.fault_count disk.new }
+        ensures failed { result ≡ Err AppendError.Failed → Rose (D.fault_count disk.old) (D.fault_count disk.new) }
+        ensures too_large { (result ≡ Err AppendError.TooLarge)
+            ↔ ((MAX_PAYLOAD < length payload.now) ⊎ (2 ^ 62 ≤ self.old.gate + 5 + length payload.now)) }
+        ensures untouched { result ≡ Err AppendError.TooLarge → disk.new ≡ disk.old }
+    {
+        let len = payload.len();
+        if len > MAX_PAYLOAD || self.gate + 5 + len as u64 >= PLACES {
+            return Err(AppendError::TooLarge);
+        }
+        let name = self.file.as_str();
+        write_entry(disk, name, self.gate, payload)?;
+        write_synced(disk, name, self.gate, &[1])?;
+        self.gate += 5 + len as u64;
+        Ok(())
+    }
+}

@@ -1,0 +1,6 @@
+pub mod Words
+pub mod Lines
+pub mod Store
+pub mod Machine
+pub mod Replies
+pub mod Runs

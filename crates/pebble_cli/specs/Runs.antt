@@ -1,0 +1,118 @@
+-- What a run comes to: its task, its status, and what it prints.
+use Rattle.std.specs.Prelude.{◌≡◌, ℕ, ◌+◌, ◌≤◌, Bool, false, not, ◌==◌, nat_lt, if◌then◌else◌, ◌⊎◌, List, [], ◌∷◌, ◌++◌, length, take, Option, Some, None, flat_map, codes}
+use Rattle.std.specs.List.{list_any}
+use Rattle.std.specs.Str.{bytes_eq}
+use Rattle.pb_devices.specs.Counts.{Rose}
+use Rattle.pb_devices.specs.declared.trace.Mark.{Mark}
+use Rattle.pebble_cli.specs.Lines.{first_fault, lines_of}
+use Rattle.pebble_cli.specs.Store.{closed}
+use Rattle.pebble_cli.specs.Machine.{AreMarks, replies}
+use Rattle.pebble_cli.specs.Replies.{printed, usage_text, too_long_text, fault_text}
+use Rattle.pebble_cli.specs.declared.line.Line.{Line}
+use Rattle.pebble_cli.specs.declared.status.Status.{Status}
+use Rattle.pebble_cli.specs.declared.status.Status.TheVariants.{Done, Refused, Usage, Script, Read, Write, Memory, TooLong}
+
+-- the words are the one word `run`
+abbrev pub is_run : List (List ℕ) → Bool
+is_run (word ∷ []) = bytes_eq word (codes "run")
+is_run words = false
+
+-- the longest script, in bytes: 16 MiB
+abbrev pub max_script : ℕ
+max_script = 16777216
+
+-- what words and a script ask for
+pub data Task : Type 0 where
+  usage : Task
+  too_long : Task
+  fault : ℕ → Task
+  script : List Line → Task
+
+abbrev pub task_of_script : List ℕ → Option ℕ → Task
+task_of_script bytes None = script (lines_of bytes)
+task_of_script bytes (Some place) = fault (place + 1)
+
+-- in this order: the length of the script, its first line that is off the grammar
+abbrev pub task_of_source : List ℕ → Task
+task_of_source bytes = if nat_lt max_script (length bytes) then too_long else task_of_script bytes (first_fault bytes)
+
+-- the words come first
+abbrev pub task_of : List (List ℕ) → List ℕ → Task
+task_of words bytes = if is_run words then task_of_source bytes else usage
+
+abbrev pub lines_due : Task → List Line
+lines_due (script lines) = lines
+lines_due task = []
+
+-- the text that a task calls for, where its lines have these marks
+abbrev pub text_of : Task → List Mark → List ℕ
+text_of usage marks = usage_text
+text_of too_long marks = too_long_text
+text_of (fault number) marks = fault_text number
+text_of (script lines) marks = flat_map printed (replies closed lines marks)
+
+-- every line ran, and every reply was printed
+abbrev pub IsWhole : Status → Type 0
+IsWhole Done = Unit {0}
+IsWhole Refused = Unit {0}
+IsWhole status = ⊥
+
+-- the run ended early, for a failing sink or for want of memory, or some reply was for want of memory
+abbrev pub IsCutShort : Status → Type 0
+IsCutShort Write = Unit {0}
+IsCutShort Memory = Unit {0}
+IsCutShort status = ⊥
+
+-- a text was printed in place of replies
+abbrev pub IsText : Status → Type 0
+IsText Usage = Unit {0}
+IsText Script = Unit {0}
+IsText TooLong = Unit {0}
+IsText status = ⊥
+
+-- no line ran
+abbrev pub IsBeforeLines : Status → Type 0
+IsBeforeLines status = IsText status ⊎ (status ≡ Read)
+
+-- the source was read to its end
+abbrev pub IsReadWhole : Status → Type 0
+IsReadWhole status = IsWhole status ⊎ (status ≡ Script) ⊎ (status ≡ Write)
+
+-- the statuses that a task may have: its own, unless the source fails or memory is wanting before
+abbrev pub IsStatusOf : Task → Status → Type 0
+IsStatusOf usage status = status ≡ Usage
+IsStatusOf too_long status = (status ≡ TooLong) ⊎ (status ≡ Read) ⊎ (status ≡ Memory)
+IsStatusOf (fault number) status = (status ≡ Script) ⊎ (status ≡ Read) ⊎ (status ≡ Memory)
+IsStatusOf (script lines) status = IsWhole status ⊎ IsCutShort status ⊎ (status ≡ Read)
+
+-- the status of a run whose every line ran, where no write failed
+abbrev pub status_of : List Mark → Status
+status_of marks =
+    if list_any (λ mark. mark.refusal == 24) marks then Memory
+    else if list_any (λ mark. not (mark.refusal == 0)) marks then Refused
+    else Done
+
+-- how a run of a task ends
+pub record Ends (task : Task) (status : Status) (marks : List Mark) : Type 0 where
+  pub due : IsStatusOf task status
+  pub each_mark : AreMarks closed (lines_due task) marks
+  pub every_line : IsWhole status → length marks ≡ length (lines_due task)
+
+-- the first bytes of a text were taken, any number of them
+abbrev pub TakesPart : List ℕ → List ℕ → List ℕ → Type 0
+TakesPart before now text = (n : ℕ) × (now ≡ before ++ take n text)
+
+-- what a run prints: a text, or the replies of the lines that ran. A part of it is printed where the run was cut short, or
+-- where the sink failed
+pub record Prints (task : Task) (status : Status) (marks : List Mark) (before now : List ℕ) (faults_before faults_now : ℕ) : Type 0 where
+  pub whole : IsWhole status → now ≡ before ++ text_of task marks
+  pub part : IsCutShort status → TakesPart before now (text_of task marks)
+  pub text : IsText status → (now ≡ before ++ text_of task marks) ⊎ (TakesPart before now (text_of task marks) × Rose faults_before faults_now)
+  pub none : status ≡ Read → now ≡ before
+
+-- the causes of a status, which hold whether or not a device tells what it holds
+pub record Causes (status : Status) (marks : List Mark) (faults_before faults_now : ℕ) : Type 0 where
+  pub ranked : IsWhole status → status ≡ status_of marks
+  pub unmarked : IsBeforeLines status → marks ≡ []
+  pub write : status ≡ Write → Rose faults_before faults_now
+  pub later : faults_before ≤ faults_now

@@ -1,0 +1,134 @@
+ghost use Rattle.std.specs.Prelude.{◌≡◌, vec_len, ◌<◌, ◌≤◌, ◌+◌, ◌++◌, ◌∷◌, ◌⊎◌, ℕ, List, [], true, length, Some, None, IfOk, IfErr, OnOk, OnErr, MatchResult};
+ghost use Rattle.pb_devices.specs.Counts.{Rose};
+ghost use Rattle.pebble_cli.specs.Lines.{texts_of, first_fault, lines_of};
+ghost use Rattle.pebble_cli.specs.Runs.{max_script};
+
+use crate::line::{Line, cut, read_line};
+use pb_devices::{Failed, Source};
+use std::alloc::{AllocError, Global};
+
+/// The longest script, in bytes: 16 MiB.
+pub const MAX_SCRIPT: usize = 16_777_216;
+
+/// How many bytes are asked for at a time.
+const PIECE: usize = 65_536;
+
+/// Why a script wasn't read.
+#[derive(Drop)]
+pub enum ReadError {
+    Failed,
+    TooLong,
+    NoMemory,
+}
+
+impl From<Failed> for ReadError {
+    ghost use Rattle.pebble_cli.specs.declared.script.ReadError.TheVariants.{Failed as ReadFailed};
+
+    ghost from_gives = { λ _ e. e ≡ ReadFailed };
+
+    fn from(_: Failed) -> ReadError {
+        ReadError::Failed
+    }
+}
+
+impl From<AllocError> for ReadError {
+    ghost use Rattle.pebble_cli.specs.declared.script.ReadError.TheVariants.{NoMemory as ReadNoMemory};
+
+    ghost from_gives = { λ _ e. e ≡ ReadNoMemory };
+
+    fn from(_: AllocError) -> ReadError {
+        ReadError::NoMemory
+    }
+}
+
+/// Reads a script to its end, at most one byte more than the longest.
+pub fn read_script<I: Source>(alloc: Global, source: &mut I) -> Result<Vec<u8>, ReadError>
+    ensures ok { I.told ≡ true → IfOk result (λ bytes. (bytes.items ≡ I.left source.old) × (I.left source.new ≡ [])) }
+    ensures short { IfOk result (λ bytes. length bytes.items ≤ max_script) }
+    ensures too_long { I.told ≡ true → result ≡ Err ReadError.TooLong → max_script < length (I.left source.old) }
+    ensures failed { result ≡ Err ReadError.Failed → Rose (I.fault_count source.old) (I.fault_count source.new) }
+    ensures later { I.fault_count source.old ≤ I.fault_count source.new }
+{
+    let mut piece = new_piece(alloc)?;
+    let mut script = Vec::new(alloc);
+    while script.len() <= MAX_SCRIPT {
+        if read_piece(source, &mut piece, &mut script)? == 0 {
+            return Ok(script);
+        }
+    }
+    Err(ReadError::TooLong)
+}
+
+/// The place that a piece is read into.
+fn new_piece(alloc: Global) -> Result<Vec<u8>, AllocError>
+    ensures { IfOk result (λ piece. 0 < vec_len piece) }
+{
+    vec![in alloc; 0; PIECE]
+}
+
+/// Reads a piece behind what was read, and answers how many bytes it had: 0 at the end.
+fn read_piece<I: Source>(
+    source: &mut I,
+    piece: &mut [u8],
+    script: &mut Vec<u8>,
+) -> Result<usize, ReadError>
+    requires some { 0 < length piece.old }
+    ensures grows { IfOk result (λ n. length script.new.items ≡ length script.old.items + n) }
+    ensures ok { I.told ≡ true → OnOk result (script.new.items ++ I.left source.new ≡ script.old.items ++ I.left source.old) }
+    ensures ended { I.told ≡ true → IfOk result (λ n. n ≡ 0 → I.left source.new ≡ []) }
+    ensures failed { result ≡ Err ReadError.Failed → Rose (I.fault_count source.old) (I.fault_count source.new) }
+    ensures known { IfErr result (λ e. (e ≡ ReadError.Failed) ⊎ (e ≡ ReadError.NoMemory)) }
+    ensures later { I.fault_count source.old ≤ I.fault_count source.new }
+{
+    let count = source.read(piece)?;
+    script.extend_from_slice(&piece[..count])?;
+    Ok(count)
+}
+
+/// Why a script isn't run.
+#[derive(Drop)]
+pub enum ParseError {
+    /// The line with this number is the first that is off the grammar, counted from 1.
+    Fault(u64),
+    NoMemory,
+}
+
+impl From<AllocError> for ParseError {
+    ghost use Rattle.pebble_cli.specs.declared.script.ParseError.TheVariants.{NoMemory as ParseNoMemory};
+
+    ghost from_gives = { λ _ e. e ≡ ParseNoMemory };
+
+    fn from(_: AllocError) -> ParseError {
+        ParseError::NoMemory
+    }
+}
+
+/// The lines of a script.
+pub fn parse(alloc: Global, script: &[u8]) -> Result<Vec<Line>, ParseError>
+    ensures ok { IfOk result (λ lines. (first_fault script.now ≡ None) × (lines.items ≡ lines_of script.now)) }
+    ensures fault { (number : ℕ) → result ≡ Err (ParseError.Fault number) → (place : ℕ) × (first_fault script.now ≡ Some place) × (number ≡ place + 1) }
+{
+    let mut lines = Vec::new(alloc);
+    let mut rest = script;
+    while !rest.is_empty() {
+        let (text, behind) = first_text(rest);
+        let Some(line) = read_line(alloc, text)? else {
+            return Err(ParseError::Fault(lines.len() as u64 + 1));
+        };
+        lines.push(line).map_err(AllocError::from)?;
+        rest = behind;
+    }
+    Ok(lines)
+}
+
+/// The first line of a script, without its end, and what stands behind.
+fn first_text(script: &[u8]) -> (&[u8], &[u8])
+    requires { 0 < length script.now }
+    ensures texts { texts_of script.now ≡ result.0.now ∷ texts_of result.1.now }
+    ensures shorter { length result.1.now < length script.now }
+{
+    match cut(script, b'\n') {
+        Some(parts) => parts,
+        None => (script, &script[script.len()..]),
+    }
+}

@@ -1,7 +1,6 @@
-ghost use Rattle.std.specs.Prelude.{◌≡◌, ◌∷◌, [], ◌<◌, ◌==◌, ◌&&◌, if◌then◌else◌, Some, None, length, position, codes, IfOk, IfSome, MatchOption};
+ghost use Rattle.std.specs.Prelude.{◌≡◌, ◌∷◌, [], ◌<◌, ◌==◌, ◌&&◌, if◌then◌else◌, length, position, codes, IfOk, IfSome, MatchOption};
 ghost use Rattle.std.specs.List.{slice_split};
 ghost use Rattle.std.specs.Str.{bytes_eq};
-ghost use Rattle.pebble_cli.specs.Words.{is_word};
 ghost use Rattle.pebble_cli.specs.Lines.{words_of, line_of, line_of_words};
 
 use crate::word::Word;

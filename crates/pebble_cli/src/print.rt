@@ -1,5 +1,4 @@
 ghost use Rattle.std.specs.Prelude.{◌≡◌, ◌++◌, ◌≤◌, ◌⊎◌, true, OnOk, OnErr, IfErr, IfOk, string_bytes};
-ghost use Rattle.std.specs.Fmt.{decimal};
 ghost use Rattle.pb_devices.specs.Counts.{HasCause, Rose};
 ghost use Rattle.pebble_cli.specs.Replies.{printed, fault_text};
 ghost use Rattle.pebble_cli.specs.Runs.{TakesPart, IsCutShort};

@@ -2,7 +2,7 @@ ghost use Rattle.std.specs.Prelude.{◌≡◌, ◌+◌, ◌^◌, ◌<◌, ◌≤
 ghost use Rattle.pb_devices.specs.Counts.{Rose};
 ghost use Rattle.pebble_cli.specs.Lines.{first_fault};
 ghost use Rattle.pebble_cli.specs.Machine.{mark_of, IsReply, state_after};
-ghost use Rattle.pebble_cli.specs.Runs.{script as script_task, fault, task_of, task_of_source, task_of_script, is_run, IsReadWhole, IsWhole, IsCutShort, Ends, Prints, Causes};
+ghost use Rattle.pebble_cli.specs.Runs.{script as script_task, fault, usage, task_of, task_of_source, task_of_script, is_run, IsReadWhole, IsWhole, IsCutShort, Ends, Prints, Causes};
 
 use crate::line::Line;
 use crate::print::{fault_text, print_reply, say};
@@ -39,6 +39,8 @@ pub fn run<I: Source, O: Sink, D: Disk, B: Bucket>(
     ensures ends { I.told ≡ true → Ends (task_of (map string_bytes words.now) (I.left script.old)) result trace.new.marks }
     ensures prints { I.told ≡ true → O.told ≡ true → Prints
         (task_of (map string_bytes words.now) (I.left script.old)) result trace.new.marks
+        (O.taken out.old) (O.taken out.new) (O.fault_count out.old) (O.fault_count out.new) }
+    ensures said { O.told ≡ true → result ≡ Status.Usage → Prints usage result trace.new.marks
         (O.taken out.old) (O.taken out.new) (O.fault_count out.old) (O.fault_count out.new) }
     ensures usage { MatchBool (is_run (map string_bytes words.now)) (result ≢ Status.Usage) (result ≡ Status.Usage) }
     ensures causes { Causes result trace.new.marks (O.fault_count out.old) (O.fault_count out.new) }

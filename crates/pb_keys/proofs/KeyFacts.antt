@@ -1,5 +1,5 @@
 -- Where a key's suffix begins, and what its parts hold.
-use Rattle.std.proofs.Common.{◌≡◌, ◌≢◌, ℕ, zero, suc, ◌+◌, ◌<◌, ◌≤◌, List, [], ◌∷◌, ◌++◌, length, get_or, take, sym, ap, ◌∙◌, refl, subst, arith, eq-eqb, true, false, inl, inr, length-append}
+use Rattle.std.proofs.Common.{◌≡◌, ◌≢◌, ℕ, zero, suc, ◌+◌, ◌<◌, ◌≤◌, List, [], ◌∷◌, length, get_or, sym, ap, ◌∙◌, refl, subst, arith, eq-eqb, true, false, inl, inr, length-append}
 use Rattle.std.proofs.lemmas.Bool.Decides.{nat_tests}
 use Rattle.std.proofs.lemmas.List.Sums.{position_or_len_is, prefix_len-le-length, fails_before_first, passes_at_first}
 use Rattle.std.proofs.lemmas.List.{get_or-take}
@@ -14,7 +14,7 @@ use Rattle.std.specs.Cmp.Lexicographic.{nat_list_cmp_total}
 use Rattle.pb_keys.specs.Order.{bytes_cmp, is_below, end_above}
 use Rattle.pb_keys.specs.Key.{IsKey, suffix_start, prefix_of, suffix_of, key_cmp, at_sign}
 use Rattle.pb_keys.specs.Span.{IsEnd, IsSpan, span_of}
-use Rattle.pb_keys.proofs.OrderFacts.{below-end_above, below_itself}
+use Rattle.pb_keys.proofs.OrderFacts.{below-end_above}
 
 pub suffix_start_within : (key : List ℕ) → suffix_start key ≤ length key
 suffix_start_within key = prefix_len-le-length (λ b. not (b == at_sign)) key

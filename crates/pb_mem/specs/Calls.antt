@@ -1,5 +1,7 @@
 -- The calls of a memory device: how many were made, and which of them fail.
 use Rattle.std.specs.Prelude.{◌≡◌, ℕ, ◌+◌, ◌-◌, ◌^◌, ◌<◌, ◌⊎◌, ◌==◌, min, List, if◌then◌else◌, IsTrue, Bool, Result, IsErr}
+use Rattle.std.specs.Prelude.{refl}
+use Rattle.std.specs.Coded.{Coded, code_by, coded×, coded_list, coded_ℕ}
 use Rattle.std.specs.List.{list_any}
 use Rattle.pb_devices.specs.Counts.{one_more, Rose}
 use Rattle.pb_devices.specs.declared.fault.Failed.{Failed}
@@ -46,3 +48,11 @@ pub record FailsExactly {T : Type 0} (before now : CallCounts) (result : Result 
   pub only : IsErr result → IsListed before ⊎ Rose before.wants now.wants
   pub listed : IsListed before → IsErr result
   pub wanted : before.wants < now.wants → IsErr result
+
+abbrev pub calls_code : Coded CallCounts
+calls_code = code_by (List ℕ × (ℕ × (ℕ × ℕ))) (coded× (coded_list coded_ℕ) (coded× coded_ℕ (coded× coded_ℕ coded_ℕ)))
+    (λ c. (c.fail, (c.made, (c.failed, c.wants)))) (λ p. record { fail = p.0; made = p.1.0; failed = p.1.1.0; wants = p.1.1.1 }) (λ _. refl)
+
+-- the counts go on with another list
+abbrev pub with_list : CallCounts → List ℕ → CallCounts
+with_list calls fail = record calls { fail = fail }

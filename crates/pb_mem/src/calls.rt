@@ -1,5 +1,5 @@
 ghost use Rattle.std.specs.Prelude.{◌≡◌, ◌↔◌, IsErr};
-ghost use Rattle.pb_mem.specs.Calls.{IsListed, no_calls, with_call, with_want, faults_of};
+ghost use Rattle.pb_mem.specs.Calls.{IsListed, no_calls, with_call, with_want, with_list, faults_of};
 
 use pb_devices::Failed;
 use std::marker::Model;
@@ -52,6 +52,13 @@ impl Calls {
         ensures { self.new ≡ with_want self.old }
     {
         self.wants = self.wants.saturating_add(1);
+    }
+
+    /// The counts go on, with another list of the calls that are to fail.
+    pub fn again(self, fail: Vec<u64>) -> Calls
+        ensures { result ≡ with_list self fail.items }
+    {
+        Calls { fail, ..self }
     }
 
     /// How many calls were made. It stands still at 2^64 - 1.

@@ -1,1 +1,5 @@
 pub mod NamedLemmas
+pub mod FileLemmas
+pub mod SlotLemmas
+pub mod CutLemmas
+pub mod FolderLemmas

@@ -3,9 +3,14 @@
 
 mod bucket;
 mod calls;
+mod disk;
+mod file;
+mod folder;
 mod names;
 mod pieces;
+mod slot;
 mod streams;
 
 pub use bucket::MemBucket;
+pub use disk::MemDisk;
 pub use streams::{MemSink, MemSource};

@@ -1,4 +1,4 @@
-ghost use Rattle.std.specs.Prelude.{◌≡◌, ◌<◌, ◌≤◌, ◌+◌, ◌++◌, ◌∷◌, ◌⊎◌, ℕ, [], true, length, vec_len, IfOk, IfErr, OnOk};
+ghost use Rattle.std.specs.Prelude.{◌≡◌, ◌<◌, ◌≤◌, ◌+◌, ◌++◌, ◌∷◌, ◌⊎◌, ℕ, [], true, length, vec_len, IsOk, IfOk, IfErr, OnOk};
 ghost use Rattle.pb_devices.specs.Counts.{Rose};
 ghost use Rattle.pebble_cli.specs.Lines.{texts_of, first_fault, lines_of};
 ghost use Rattle.pebble_cli.specs.Runs.{max_script};
@@ -41,18 +41,22 @@ impl From<AllocError> for ReadError {
     }
 }
 
-/// Reads a script to its end, at most one byte more than the longest.
+/// Reads a script to its end, and of a longer one no more than one byte behind the longest.
 pub fn read_script<I: Source>(alloc: Global, source: &mut I) -> Result<Vec<u8>, ReadError>
     ensures ok { I.told ≡ true → IfOk result (λ bytes. (bytes.items ≡ I.left source.old) × (I.left source.new ≡ [])) }
     ensures short { IfOk result (λ bytes. length bytes.items ≤ max_script) }
     ensures too_long { I.told ≡ true → result ≡ Err ReadError.TooLong → max_script < length (I.left source.old) }
+    ensures taken { I.told ≡ true → IsOk result ⊎ (result ≡ Err ReadError.TooLong)
+        → length (I.left source.old) ≤ length (I.left source.new) + max_script + 1 }
     ensures failed { result ≡ Err ReadError.Failed → Rose (I.fault_count source.old) (I.fault_count source.new) }
     ensures later { I.fault_count source.old ≤ I.fault_count source.new }
 {
     let mut piece = new_piece(alloc)?;
+    let piece = piece.as_mut_slice();
     let mut script = Vec::new(alloc);
     while script.len() <= MAX_SCRIPT {
-        if read_piece(source, &mut piece, &mut script)? == 0 {
+        let room = piece.len().min(MAX_SCRIPT + 1 - script.len());
+        if read_piece(source, &mut piece[..room], &mut script)? == 0 {
             return Ok(script);
         }
     }
@@ -73,7 +77,7 @@ fn read_piece<I: Source>(
     script: &mut Vec<u8>,
 ) -> Result<usize, ReadError>
     requires some { 0 < length piece.old }
-    ensures grows { IfOk result (λ n. length script.new.items ≡ length script.old.items + n) }
+    ensures grows { IfOk result (λ n. (n ≤ length piece.old) × (length script.new.items ≡ length script.old.items + n)) }
     ensures ok { I.told ≡ true → OnOk result (script.new.items ++ I.left source.new ≡ script.old.items ++ I.left source.old) }
     ensures ended { I.told ≡ true → IfOk result (λ n. n ≡ 0 → I.left source.new ≡ []) }
     ensures failed { result ≡ Err ReadError.Failed → Rose (I.fault_count source.old) (I.fault_count source.new) }

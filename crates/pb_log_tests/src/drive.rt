@@ -1,0 +1,69 @@
+ghost use Rattle.std.specs.Prelude.{◌≡◌, ◌≤◌, [], ◌∷◌, true, None, Ok, Err, IfOk, OnOk};
+ghost use Rattle.pb_gate_log.specs.EachLog.{EachHas, EachLog};
+
+use pb_devices::{Disk, Failed, Fault};
+use pb_gate_log::{AppendError, GateLog};
+use pb_keys::Bytes;
+use pb_names::Name;
+use std::alloc::Global;
+
+/// Makes a log, and appends one payload. After `Ok` each image of the file has the one payload.
+pub fn one_append<D: Disk>(disk: &mut D, name: Name, payload: &[u8]) -> Result<(), AppendError>
+    requires { D.told ≡ true → (D.contents disk.old).seen name ≡ None }
+    ensures { D.told ≡ true → OnOk result (EachHas (payload.now ∷ []) (D.contents disk.new) name) }
+{
+    let mut log = GateLog::create(disk, name)?;
+    log.append(disk, payload)?;
+    Ok(())
+}
+
+/// Makes a log, appends `ab` and then an empty payload, and says how many of them were acknowledged.
+pub fn two_appends<D: Disk>(disk: &mut D, name: Name) -> usize
+    requires { D.told ≡ true → (D.contents disk.old).seen name ≡ None }
+    ensures { result ≤ 2 }
+{
+    let Ok(mut log) = GateLog::create(disk, name) else {
+        return 0;
+    };
+    let Ok(()) = log.append(disk, b"ab") else {
+        return 0;
+    };
+    let Ok(()) = log.append(disk, b"") else {
+        return 1;
+    };
+    2
+}
+
+/// Makes a file of these bytes.
+pub fn damaged<D: Disk>(disk: &mut D, name: Name, bytes: &[u8]) -> Result<(), Failed>
+    requires { D.told ≡ true → (D.contents disk.old).seen name ≡ None }
+{
+    let file = name.as_str();
+    disk.create(file)?;
+    disk.write_at(file, 0, bytes)?;
+    disk.barrier()?;
+    Ok(())
+}
+
+/// Opens the log of a file after a barrier, or makes it where it isn't there.
+pub fn reopened<D: Disk>(
+    alloc: Global,
+    disk: &mut D,
+    name: Name,
+) -> Result<(GateLog, Vec<Bytes>), Fault>
+    ensures { D.told ≡ true → IfOk result (λ found. EachLog found.0 found.1.items (D.contents disk.new)) }
+{
+    let Ok(()) = disk.barrier() else {
+        return Err(Fault::Disk);
+    };
+    let Ok(found) = disk.len(name.as_str()) else {
+        return Err(Fault::Disk);
+    };
+    if found.is_some() {
+        return GateLog::open(alloc, disk, name);
+    }
+    let Ok(log) = GateLog::create(disk, name) else {
+        return Err(Fault::Disk);
+    };
+    Ok((log, Vec::new(alloc)))
+}

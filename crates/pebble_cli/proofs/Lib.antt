@@ -2,4 +2,12 @@ pub mod WordBytes
 pub mod LineWords
 pub mod Cuts
 pub mod Maps
+pub mod SettingFacts
+pub mod SetFacts
+pub mod LogFacts
+pub mod LoggedFacts
+pub mod StoreFacts
+pub mod Counting
 pub mod Progress
+pub mod Crash
+pub mod Early

@@ -7,7 +7,10 @@ use Rattle.std.specs.BTreeMap.{is_at}
 use Rattle.std.specs.declared.cmp.Ordering.{Ordering}
 use Rattle.std.specs.declared.cmp.Ordering.TheVariants.{Less, Equal, Greater}
 use Rattle.std.specs.Ordering.{nat_cmp, is_eq, eq_by_cmp, ordering_reverse}
+use Rattle.std.specs.Str.{bytes_eq}
 use Rattle.std.proofs.lemmas.Cmp.{nat_list_cmp_total}
+use Rattle.std.proofs.lemmas.Map.Text.{is_eq-slice_cmp}
+use Rattle.pebble_cli.specs.Store.{Map}
 
 abbrev pub Entries : Type 0
 Entries = List (List ℕ × List ℕ)
@@ -37,3 +40,6 @@ insert_entries old new key value each =
     ∙ ap (λ b. cond b (Some value) (looked_up q old)) (tied key q)
     ∙ ap (cond (eq_by_cmp (slice_cmp nat_cmp) q key) (Some value)) (sym (get_entries old q))
     ∙ sym (get-insert nat_list_cmp_total (from_entries old) key value q))
+
+pub get_set : (m : Map) (key value q : List ℕ) → get (insert m key value) q ≡ cond (bytes_eq q key) (Some value) (get m q)
+get_set m key value q = get-insert nat_list_cmp_total m key value q ∙ ap (λ b. cond b (Some value) (get m q)) (is_eq-slice_cmp q key)

@@ -1,68 +1,103 @@
--- What holds of a run between two lines.
-use Rattle.std.proofs.Common.{◌≡◌, ℕ, ◌+◌, ◌≤◌, ◌==◌, not, if◌then◌else◌, ◌⊎◌, inl, inr, List, [], ◌∷◌, ◌++◌, length, take, flat_map, refl, sym, ap, ◌∙◌, subst, append_assoc, arith, length-append}
-use Rattle.std.proofs.Math.Seq.{take-append-add, take-length}
-use Rattle.std.proofs.lemmas.Grind.{flat_map-append}
-use Rattle.std.proofs.lemmas.List.{append-nil}
+-- The lines of a script, run one by one: their marks, their replies and what is printed.
+use Rattle.std.proofs.Common.{◌≡◌, ℕ, ◌+◌, ◌≤◌, Bool, true, false, ◌==◌, not, if◌then◌else◌, List, [], ◌∷◌, ◌++◌, length, take, flat_map, ◌⊎◌, inl, inr, refl, sym, ap, ◌∙◌, subst, arith, length-append, append_assoc, append-nil}
+use Rattle.std.proofs.lemmas.List.{map-append}
 use Rattle.std.specs.List.{list_any}
+use Rattle.std.proofs.lemmas.Grind.{flat_map-append}
+use Rattle.std.proofs.Math.Seq.{take-append-add, take-length}
 use Rattle.pb_devices.specs.Counts.{Rose}
-use Rattle.std.proofs.lemmas.Bool.{cond_both}
 use Rattle.pb_devices.specs.declared.trace.Mark.{Mark}
-use Rattle.pebble_cli.specs.Store.{State, closed}
-use Rattle.pebble_cli.specs.Machine.{mark_of, reply_to, accepted_after, state_after, IsReply, AreMarks, replies}
+use Rattle.pebble_cli.specs.Machine.{State, Ran, closed, mark_of, reply_to, state_after, states_after, AreRan, replies}
+use Rattle.pebble_cli.specs.StoreStates.{IsIn, is_down, ran_of}
 use Rattle.pebble_cli.specs.Replies.{printed}
-use Rattle.pebble_cli.specs.Runs.{Task, script, text_of, IsWhole, IsCutShort, IsText, status_of, Ends, Prints, TakesPart, Causes}
+use Rattle.pebble_cli.specs.Runs.{Task, script, text_of, IsWhole, IsCutShort, IsText, status_of, Ends, TakesPart, Prints, Causes, marks_of}
 use Rattle.pebble_cli.specs.declared.line.Line.{Line}
-use Rattle.pebble_cli.specs.declared.line.Line.TheVariants.{Open, Set, Get}
 use Rattle.pebble_cli.specs.declared.reply.Reply.{Reply}
+use Rattle.pebble_cli.specs.declared.store.Store.{Store}
+use Rattle.pebble_cli.specs.declared.store.Store.TheVariants.{Closed, Open, Down}
 use Rattle.pebble_cli.specs.declared.status.Status.{Status}
-use Rattle.pebble_cli.specs.declared.status.Status.TheVariants.{Done, Refused, Usage, Script, Read, Write, Memory, TooLong}
+use Rattle.pebble_cli.specs.declared.status.Status.TheVariants.{Done, Refused, Usage, Script, Read, Write, Device, Memory, Damaged, TooLong}
 
--- the lines but for the rest have run: they have the marks, and led to the state
-pub record Reaches (lines : List Line) (marks : List Mark) (state : State) (rest : List Line) : Type 0 where
-  pub marked : (more : List Mark) → AreMarks state rest more → AreMarks closed lines (marks ++ more)
-  pub answered : (more : List Mark) → replies closed lines (marks ++ more) ≡ replies closed lines marks ++ replies state rest more
-  pub lengths : length marks + length rest ≡ length lines
-  pub count : state.count ≤ length marks
+-- some lines ran and came to this, and the rest is to run from this state. It is told by what is to come
+pub record Reaches (lines : List Line) (ran : List Ran) (state : State) (rest : List Line) : Type 0 where
+  pub marked : (more : List Ran) → AreRan state rest more → AreRan closed lines (ran ++ more)
+  pub answered : (more : List Ran) → replies closed lines (ran ++ more) ≡ replies closed lines ran ++ replies state rest more
+  pub ended : (more : List Ran) → states_after closed lines (ran ++ more) ≡ states_after state rest more
+  pub lengths : length ran + length rest ≡ length lines
 
 pub reaches_start : (lines : List Line) → Reaches lines [] closed lines
 reaches_start lines = record {
   marked = λ more each. each;
   answered = λ more. refl;
+  ended = λ more. refl;
   lengths = omega arith;
-  count = omega arith;
 }
 
-accepted_count : (state : State) (line : Line) → (accepted_after state line).count ≤ state.count + 1
-accepted_count state Open = omega arith
-accepted_count state (Set key value) = omega arith
-accepted_count state (Get key) = omega arith
-
-after_count : (state : State) (line : Line) (mark : Mark) → (state_after state line mark).count ≤ state.count + 1
-after_count state line mark = cond_both (mark.refusal == 0) (accepted_after state line) state (λ s. s.count ≤ state.count + 1) (λ _. accepted_count state line) (λ _. omega arith)
-
-pub reaches_step : (lines : List Line) (marks : List Mark) (state : State) (line : Line) (rest : List Line) (reply : Reply) → Reaches lines marks state (line ∷ rest) → IsReply state line reply → Reaches lines (marks ++ mark_of reply ∷ []) (state_after state line (mark_of reply)) rest
-reaches_step lines marks state line rest reply so_far is =
-    let mark = mark_of reply in
-    record {
-      marked = λ more each. rw append_assoc (so_far.marked (mark ∷ more) (ap mark_of is, each));
-      answered = λ more.
-          ap (replies closed lines) (append_assoc marks (mark ∷ []) more) ∙ so_far.answered (mark ∷ more)
-          ∙ sym (append_assoc (replies closed lines marks) (reply_to state line mark ∷ []) (replies (state_after state line mark) rest more))
-          ∙ ap (λ before. before ++ replies (state_after state line mark) rest more) (sym (so_far.answered (mark ∷ [])));
-      lengths = omega (arith, so_far.lengths, length-append marks (mark ∷ []));
-      count = omega (arith, so_far.count, after_count state line mark, length-append marks (mark ∷ []));
-    }
+pub reaches_step : (lines : List Line) (ran : List Ran) (state : State) (line : Line) (rest : List Line) (one : Ran) → Reaches lines ran state (line ∷ rest) → one.mark ≡ mark_of (reply_to state line one.mark) (state_after state line one).is_down → Reaches lines (ran ++ one ∷ []) (state_after state line one) rest
+reaches_step lines ran state line rest one so_far is = record {
+  marked = λ more each. rw append_assoc (so_far.marked (one ∷ more) (is, each));
+  answered = λ more.
+      ap (replies closed lines) (append_assoc ran (one ∷ []) more) ∙ so_far.answered (one ∷ more)
+      ∙ sym (append_assoc (replies closed lines ran) (reply_to state line one.mark ∷ []) (replies (state_after state line one) rest more))
+      ∙ ap (λ before. before ++ replies (state_after state line one) rest more) (sym (so_far.answered (one ∷ [])));
+  ended = λ more. ap (states_after closed lines) (append_assoc ran (one ∷ []) more) ∙ so_far.ended (one ∷ more);
+  lengths = omega (arith, so_far.lengths, length-append ran (one ∷ []));
+}
 
 -- the replies of the lines that ran, printed
-abbrev pub texts : List Line → List Mark → List ℕ
-texts lines marks = flat_map printed (replies closed lines marks)
+abbrev pub texts : List Line → List Ran → List ℕ
+texts lines ran = flat_map printed (replies closed lines ran)
 
-pub texts_step : (lines : List Line) (marks : List Mark) (state : State) (line : Line) (rest : List Line) (reply : Reply) → Reaches lines marks state (line ∷ rest) → IsReply state line reply → texts lines (marks ++ mark_of reply ∷ []) ≡ texts lines marks ++ printed reply
-texts_step lines marks state line rest reply so_far is =
-    let mark = mark_of reply in
-    ap (flat_map printed) (so_far.answered (mark ∷ []))
-    ∙ flat_map-append printed (replies closed lines marks) (reply_to state line mark ∷ [])
-    ∙ ap (λ text. texts lines marks ++ text) (append-nil (printed (reply_to state line mark)) ∙ ap printed (sym is))
+pub texts_step : (lines : List Line) (ran : List Ran) (state : State) (line : Line) (rest : List Line) (one : Ran) (reply : Reply) → Reaches lines ran state (line ∷ rest) → reply ≡ reply_to state line one.mark → texts lines (ran ++ one ∷ []) ≡ texts lines ran ++ printed reply
+texts_step lines ran state line rest one reply so_far is =
+    ap (flat_map printed) (so_far.answered (one ∷ []))
+    ∙ flat_map-append printed (replies closed lines ran) (reply_to state line one.mark ∷ [])
+    ∙ ap (λ text. texts lines ran ++ text) (append-nil (printed (reply_to state line one.mark)) ∙ ap printed (sym is))
+
+-- the lines that ran, against the trace and the store in memory
+pub record Going (lines rest : List Line) (marks : List Mark) (store : Store) : Type 0 where
+  pub ran : List Ran
+  pub state : State
+  pub so_far : Reaches lines ran state rest
+  pub marked : marks ≡ marks_of ran
+  pub is_in : IsIn store state
+
+abbrev pub going_start : (lines left : List Line) (marks : List Mark) → left ≡ lines → marks ≡ [] → Going lines left marks Closed
+going_start lines left marks all none = record {
+  ran = [];
+  state = closed;
+  so_far = subst (Reaches lines [] closed) (sym all) (reaches_start lines);
+  marked = none;
+  is_in = (refl, refl);
+}
+
+pub same_down : (store : Store) (state : State) → IsIn store state → is_down store ≡ state.is_down
+same_down Closed state is = sym is.1
+same_down (Open held) state is = sym is.1
+same_down Down state is = sym is.1
+
+-- a line ran, and has its mark
+abbrev pub going_step : (lines left rest : List Line) (old new : List Mark) (before after : Store) (line : Line) (reply : Reply) → (going : Going lines left old before) → left ≡ line ∷ rest
+    → ((state : State) → IsIn before state → reply ≡ reply_to state line (ran_of reply after).mark)
+    → ((state : State) → IsIn before state → IsIn after (state_after state line (ran_of reply after)))
+    → new ≡ old ++ (ran_of reply after).mark ∷ [] → Going lines rest new after
+going_step lines left rest old new before after line reply going next is state marks =
+    let one = ran_of reply after in
+    let next_state = state_after going.state line one in
+    let is_in = state going.state going.is_in in
+    record {
+      ran = going.ran ++ one ∷ [];
+      state = next_state;
+      so_far = reaches_step lines going.ran going.state line rest one (subst (Reaches lines going.ran going.state) next going.so_far)
+          (ap (λ r. mark_of r (is_down after)) (is going.state going.is_in) ∙ ap (mark_of (reply_to going.state line one.mark)) (same_down after next_state is_in));
+      marked = marks ∙ ap (λ m. m ++ one.mark ∷ []) going.marked ∙ sym (map-append (λ (r : Ran). r.mark) going.ran (one ∷ []));
+      is_in = is_in;
+    }
+
+pub texts_ran : (lines left rest : List Line) (old : List Mark) (before after : Store) (line : Line) (reply : Reply) → (going : Going lines left old before) → left ≡ line ∷ rest
+    → ((state : State) → IsIn before state → reply ≡ reply_to state line (ran_of reply after).mark)
+    → texts lines (going.ran ++ ran_of reply after ∷ []) ≡ texts lines going.ran ++ printed reply
+texts_ran lines left rest old before after line reply going next is =
+    texts_step lines going.ran going.state line rest (ran_of reply after) reply (subst (Reaches lines going.ran going.state) next going.so_far) (is going.state going.is_in)
 
 pub part_step : (before text now more : List ℕ) → TakesPart (before ++ text) now more → TakesPart before now (text ++ more)
 part_step before text now more part = (length text + part.0, part.1 ∙ append_assoc before text (take part.0 more) ∙ ap (λ t. before ++ t) (sym (take-append-add text more part.0)))
@@ -72,17 +107,6 @@ whole_part before text now is = (length text, is ∙ ap (λ t. before ++ t) (sym
 
 pub no_part : (before text now : List ℕ) → now ≡ before → TakesPart before now text
 no_part before text now is = (0, is ∙ sym (append-nil before))
-
--- a line ran, and has its mark
-pub line_ran : (lines left rest : List Line) (old new : List Mark) (before after : State) (line : Line) (reply : Reply) → Reaches lines old before left → left ≡ line ∷ rest → IsReply before line reply → after ≡ state_after before line (mark_of reply) → new ≡ old ++ mark_of reply ∷ [] → Reaches lines new after rest
-line_ran lines left rest old new before after line reply so_far next is state marks =
-    subst (λ m. Reaches lines m after rest) (sym marks)
-    (subst (λ s. Reaches lines (old ++ mark_of reply ∷ []) s rest) (sym state)
-    (reaches_step lines old before line rest reply (subst (Reaches lines old before) next so_far) is))
-
-pub texts_ran : (lines left rest : List Line) (old new : List Mark) (before : State) (line : Line) (reply : Reply) → Reaches lines old before left → left ≡ line ∷ rest → IsReply before line reply → new ≡ old ++ mark_of reply ∷ [] → texts lines new ≡ texts lines old ++ printed reply
-texts_ran lines left rest old new before line reply so_far next is marks =
-    ap (texts lines) marks ∙ texts_step lines old before line rest reply (subst (Reaches lines old before) next so_far) is
 
 -- ---- the statuses of a run whose lines ran
 
@@ -94,6 +118,8 @@ not_whole Write cut whole = whole
 not_whole Memory cut whole = whole
 not_whole Done cut whole = cut
 not_whole Refused cut whole = cut
+not_whole Device cut whole = cut
+not_whole Damaged cut whole = cut
 not_whole Usage cut whole = cut
 not_whole Script cut whole = cut
 not_whole Read cut whole = cut
@@ -108,6 +134,8 @@ not_text Write ran text = text
 not_text Memory ran text = text
 not_text Done ran text = text
 not_text Refused ran text = text
+not_text Device ran text = text
+not_text Damaged ran text = text
 not_text Read ran text = text
 not_text Usage ran text = neither ran
 not_text Script ran text = neither ran
@@ -116,24 +144,33 @@ not_text TooLong ran text = neither ran
 pub not_read : (status : Status) → IsOfLines status → status ≡ Read → ⊥
 not_read status ran is = neither (subst IsOfLines is ran)
 
+-- the status by its four tests
+by_tests : (P : Status → Type 0) (a b c d : Bool) → P Memory → P Device → P Damaged → P Refused → P Done
+    → P (if a then Memory else if b then Device else if c then Damaged else if d then Refused else Done)
+by_tests P true b c d memory device damaged refused done = memory
+by_tests P false true c d memory device damaged refused done = device
+by_tests P false false true d memory device damaged refused done = damaged
+by_tests P false false false true memory device damaged refused done = refused
+by_tests P false false false false memory device damaged refused done = done
+
+pub of_status : (P : Status → Type 0) (marks : List Mark) → P Memory → P Device → P Damaged → P Refused → P Done → P (status_of marks)
+of_status P marks = by_tests P (list_any (λ mark. mark.refusal == 24) marks) (list_any (λ mark. mark.refusal == 22) marks) (list_any (λ mark. mark.refusal == 20) marks) (list_any (λ mark. not (mark.refusal == 0)) marks)
+
 pub ranked : (marks : List Mark) → IsOfLines (status_of marks)
-ranked marks =
-    cond_both (list_any (λ mark. mark.refusal == 24) marks) Memory (if list_any (λ mark. not (mark.refusal == 0)) marks then Refused else Done) IsOfLines
-    (λ _. inr tt)
-    (λ _. cond_both (list_any (λ mark. not (mark.refusal == 0)) marks) Refused Done IsOfLines (λ _. inl tt) (λ _. inl tt))
+ranked marks = of_status IsOfLines marks (inr tt) (inl tt) (inl tt) (inl tt) (inl tt)
 
-each_mark : (lines rest : List Line) (marks : List Mark) (state : State) → Reaches lines marks state rest → AreMarks closed lines marks
-each_mark lines rest marks state so_far = subst (AreMarks closed lines) (append-nil marks) (so_far.marked [] tt)
+each_mark : (lines rest : List Line) (ran : List Ran) (state : State) → Reaches lines ran state rest → AreRan closed lines ran
+each_mark lines rest ran state so_far = subst (AreRan closed lines) (append-nil ran) (so_far.marked [] tt)
 
-pub cut_ends : (lines rest : List Line) (marks : List Mark) (state : State) (status : Status) → Reaches lines marks state rest → IsCutShort status → Ends (script lines) status marks
-cut_ends lines rest marks state status so_far cut = record {
+pub cut_ends : (lines rest : List Line) (ran : List Ran) (state : State) (status : Status) → Reaches lines ran state rest → IsCutShort status → Ends (script lines) status ran
+cut_ends lines rest ran state status so_far cut = record {
   due = inr (inl cut);
-  each_mark = each_mark lines rest marks state so_far;
+  each_mark = each_mark lines rest ran state so_far;
   every_line = λ whole. absurd (not_whole status cut whole);
 }
 
-pub cut_prints : (lines : List Line) (marks : List Mark) (status : Status) (before now : List ℕ) (faults_before faults_now : ℕ) → IsCutShort status → TakesPart before now (texts lines marks) → Prints (script lines) status marks before now faults_before faults_now
-cut_prints lines marks status before now faults_before faults_now cut part = record {
+pub cut_prints : (lines : List Line) (ran : List Ran) (status : Status) (before now : List ℕ) (faults_before faults_now : ℕ) → IsCutShort status → TakesPart before now (texts lines ran) → Prints (script lines) status ran before now faults_before faults_now
+cut_prints lines ran status before now faults_before faults_now cut part = record {
   whole = λ whole. absurd (not_whole status cut whole);
   part = λ _. part;
   text = λ text. absurd (not_text status (inr cut) text);
@@ -148,28 +185,25 @@ cut_causes status marks faults_before faults_now cut write later = record {
   later = later;
 }
 
-pub all_ends : (lines rest : List Line) (marks : List Mark) (state : State) (status : Status) → Reaches lines marks state rest → length rest ≡ 0 → status ≡ status_of marks → Ends (script lines) status marks
-all_ends lines rest marks state status so_far none is = record {
+pub all_ends : (lines rest : List Line) (ran : List Ran) (marks : List Mark) (state : State) (status : Status) → Reaches lines ran state rest → length rest ≡ 0 → status ≡ status_of marks → Ends (script lines) status ran
+all_ends lines rest ran marks state status so_far none is = record {
   due = elim (subst IsOfLines (sym is) (ranked marks)) [ inl whole ↦ inl whole | inr cut ↦ inr (inl cut) ];
-  each_mark = each_mark lines rest marks state so_far;
+  each_mark = each_mark lines rest ran state so_far;
   every_line = λ _. omega (arith, so_far.lengths, none);
 }
 
-pub all_prints : (lines : List Line) (marks : List Mark) (status : Status) (before now : List ℕ) (faults_before faults_now : ℕ) → status ≡ status_of marks → now ≡ before ++ texts lines marks → Prints (script lines) status marks before now faults_before faults_now
-all_prints lines marks status before now faults_before faults_now is taken =
-    let ran : IsOfLines status = subst IsOfLines (sym is) (ranked marks) in
+pub all_prints : (lines : List Line) (ran : List Ran) (marks : List Mark) (status : Status) (before now : List ℕ) (faults_before faults_now : ℕ) → status ≡ status_of marks → now ≡ before ++ texts lines ran → Prints (script lines) status ran before now faults_before faults_now
+all_prints lines ran marks status before now faults_before faults_now is taken =
+    let of_lines : IsOfLines status = subst IsOfLines (sym is) (ranked marks) in
     record {
       whole = λ _. taken;
-      part = λ _. whole_part before (texts lines marks) now taken;
-      text = λ text. absurd (not_text status ran text);
-      none = λ read. absurd (not_read status ran read);
+      part = λ _. whole_part before (texts lines ran) now taken;
+      text = λ text. absurd (not_text status of_lines text);
+      none = λ read. absurd (not_read status of_lines read);
     }
 
 not_write : (marks : List Mark) → status_of marks ≡ Write → ⊥
-not_write marks =
-    cond_both (list_any (λ mark. mark.refusal == 24) marks) Memory (if list_any (λ mark. not (mark.refusal == 0)) marks then Refused else Done) (λ s. s ≡ Write → ⊥)
-    (λ _ e. cc)
-    (λ _. cond_both (list_any (λ mark. not (mark.refusal == 0)) marks) Refused Done (λ s. s ≡ Write → ⊥) (λ _ e. cc) (λ _ e. cc))
+not_write marks = of_status (λ s. s ≡ Write → ⊥) marks (λ e. cc) (λ e. cc) (λ e. cc) (λ e. cc) (λ e. cc)
 
 pub all_causes : (status : Status) (marks : List Mark) (faults_before faults_now : ℕ) → status ≡ status_of marks → faults_before ≤ faults_now → Causes status marks faults_before faults_now
 all_causes status marks faults_before faults_now is later =

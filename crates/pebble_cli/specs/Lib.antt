@@ -1,6 +1,11 @@
 pub mod Words
 pub mod Lines
 pub mod Store
+pub mod Settings
+pub mod Folder
 pub mod Machine
+pub mod StoreStates
 pub mod Replies
 pub mod Runs
+pub mod Headline
+pub mod HostDisk

@@ -1,11 +1,18 @@
 -- The texts that a run prints.
 use Rattle.std.specs.Prelude.{ℕ, List, [], ◌∷◌, ◌++◌, codes}
 use Rattle.std.specs.Fmt.{decimal}
+use Rattle.pb_gate_log.specs.declared.gate_log.AppendError.{AppendError}
+use Rattle.pb_gate_log.specs.declared.gate_log.AppendError.TheVariants.{Failed, TooLarge}
 use Rattle.pebble_cli.specs.Machine.{number_of}
 use Rattle.pebble_cli.specs.declared.reply.Refusal.{Refusal}
-use Rattle.pebble_cli.specs.declared.reply.Refusal.TheVariants.{NotOpen, AlreadyOpen, NoMemory}
+use Rattle.pebble_cli.specs.declared.reply.Refusal.TheVariants.{NotOpen, AlreadyOpen, NumbersSpent, Damaged, DiskFault, NoMemory}
 use Rattle.pebble_cli.specs.declared.reply.Reply.{Reply}
 use Rattle.pebble_cli.specs.declared.reply.Reply.TheVariants.{Opened, Accepted, Value, Absent, Refused}
+
+-- how an append that failed is told
+abbrev pub append_refusal : AppendError → Refusal
+append_refusal Failed = DiskFault
+append_refusal TooLarge = NoMemory
 
 -- a text as a line
 abbrev pub line : List ℕ → List ℕ
@@ -14,6 +21,9 @@ line text = text ++ 10 ∷ []
 abbrev pub name_of : Refusal → List ℕ
 name_of NotOpen = codes "NotOpen"
 name_of AlreadyOpen = codes "AlreadyOpen"
+name_of NumbersSpent = codes "NumbersSpent"
+name_of Damaged = codes "Damaged 3.log"
+name_of DiskFault = codes "DiskFault"
 name_of NoMemory = codes "NoMemory"
 
 abbrev pub printed : Reply → List ℕ

@@ -1,16 +1,15 @@
 -- What a run comes to: its task, its status, and what it prints.
-use Rattle.std.specs.Prelude.{◌≡◌, ℕ, ◌+◌, ◌≤◌, Bool, false, not, ◌==◌, nat_lt, if◌then◌else◌, ◌⊎◌, List, [], ◌∷◌, ◌++◌, length, take, Option, Some, None, flat_map, codes}
+use Rattle.std.specs.Prelude.{◌≡◌, ℕ, ◌+◌, ◌≤◌, Bool, false, not, ◌==◌, nat_lt, if◌then◌else◌, ◌⊎◌, List, [], ◌∷◌, ◌++◌, length, take, map, Option, Some, None, flat_map, codes}
 use Rattle.std.specs.List.{list_any}
 use Rattle.std.specs.Str.{bytes_eq}
 use Rattle.pb_devices.specs.Counts.{Rose}
 use Rattle.pb_devices.specs.declared.trace.Mark.{Mark}
 use Rattle.pebble_cli.specs.Lines.{first_fault, lines_of}
-use Rattle.pebble_cli.specs.Store.{closed}
-use Rattle.pebble_cli.specs.Machine.{AreMarks, replies}
+use Rattle.pebble_cli.specs.Machine.{Ran, closed, AreRan, replies}
 use Rattle.pebble_cli.specs.Replies.{printed, usage_text, too_long_text, fault_text}
 use Rattle.pebble_cli.specs.declared.line.Line.{Line}
 use Rattle.pebble_cli.specs.declared.status.Status.{Status}
-use Rattle.pebble_cli.specs.declared.status.Status.TheVariants.{Done, Refused, Usage, Script, Read, Write, Memory, TooLong}
+use Rattle.pebble_cli.specs.declared.status.Status.TheVariants.{Done, Refused, Usage, Script, Read, Write, Device, Memory, Damaged, TooLong}
 
 -- the words are the one word `run`
 abbrev pub is_run : List (List ℕ) → Bool
@@ -44,17 +43,19 @@ abbrev pub lines_due : Task → List Line
 lines_due (script lines) = lines
 lines_due task = []
 
--- the text that a task calls for, where its lines have these marks
-abbrev pub text_of : Task → List Mark → List ℕ
-text_of usage marks = usage_text
-text_of too_long marks = too_long_text
-text_of (fault number) marks = fault_text number
-text_of (script lines) marks = flat_map printed (replies closed lines marks)
+-- the text that a task calls for, where its lines came to this
+abbrev pub text_of : Task → List Ran → List ℕ
+text_of usage ran = usage_text
+text_of too_long ran = too_long_text
+text_of (fault number) ran = fault_text number
+text_of (script lines) ran = flat_map printed (replies closed lines ran)
 
 -- every line ran, and every reply was printed
 abbrev pub IsWhole : Status → Type 0
 IsWhole Done = Unit {0}
 IsWhole Refused = Unit {0}
+IsWhole Device = Unit {0}
+IsWhole Damaged = Unit {0}
 IsWhole status = ⊥
 
 -- the run ended early, for a failing sink or for want of memory, or some reply was for want of memory
@@ -89,14 +90,16 @@ IsStatusOf (script lines) status = IsWhole status ⊎ IsCutShort status ⊎ (sta
 abbrev pub status_of : List Mark → Status
 status_of marks =
     if list_any (λ mark. mark.refusal == 24) marks then Memory
+    else if list_any (λ mark. mark.refusal == 22) marks then Device
+    else if list_any (λ mark. mark.refusal == 20) marks then Damaged
     else if list_any (λ mark. not (mark.refusal == 0)) marks then Refused
     else Done
 
 -- how a run of a task ends
-pub record Ends (task : Task) (status : Status) (marks : List Mark) : Type 0 where
+pub record Ends (task : Task) (status : Status) (ran : List Ran) : Type 0 where
   pub due : IsStatusOf task status
-  pub each_mark : AreMarks closed (lines_due task) marks
-  pub every_line : IsWhole status → length marks ≡ length (lines_due task)
+  pub each_mark : AreRan closed (lines_due task) ran
+  pub every_line : IsWhole status → length ran ≡ length (lines_due task)
 
 -- the first bytes of a text were taken, any number of them
 abbrev pub TakesPart : List ℕ → List ℕ → List ℕ → Type 0
@@ -104,10 +107,10 @@ TakesPart before now text = (n : ℕ) × (now ≡ before ++ take n text)
 
 -- what a run prints: a text, or the replies of the lines that ran. A part of it is printed where the run was cut short, or
 -- where the sink failed
-pub record Prints (task : Task) (status : Status) (marks : List Mark) (before now : List ℕ) (faults_before faults_now : ℕ) : Type 0 where
-  pub whole : IsWhole status → now ≡ before ++ text_of task marks
-  pub part : IsCutShort status → TakesPart before now (text_of task marks)
-  pub text : IsText status → (now ≡ before ++ text_of task marks) ⊎ (TakesPart before now (text_of task marks) × Rose faults_before faults_now)
+pub record Prints (task : Task) (status : Status) (ran : List Ran) (before now : List ℕ) (faults_before faults_now : ℕ) : Type 0 where
+  pub whole : IsWhole status → now ≡ before ++ text_of task ran
+  pub part : IsCutShort status → TakesPart before now (text_of task ran)
+  pub text : IsText status → (now ≡ before ++ text_of task ran) ⊎ (TakesPart before now (text_of task ran) × Rose faults_before faults_now)
   pub none : status ≡ Read → now ≡ before
 
 -- the causes of a status, which hold whether or not a device tells what it holds
@@ -116,3 +119,15 @@ pub record Causes (status : Status) (marks : List Mark) (faults_before faults_no
   pub unmarked : IsBeforeLines status → marks ≡ []
   pub write : status ≡ Write → Rose faults_before faults_now
   pub later : faults_before ≤ faults_now
+
+-- the marks of the lines that ran
+abbrev pub marks_of : List Ran → List Mark
+marks_of ran = map (λ (r : Ran). r.mark) ran
+
+-- what a run comes to: what each line came to, what was printed of it, and what a crash may leave then
+pub record Comes (task : Task) (status : Status) (marks : List Mark) (Printed Left : List Ran → Type 0) : Type 0 where
+  pub ran : List Ran
+  pub marked : marks ≡ marks_of ran
+  pub ends : Ends task status ran
+  pub printed : Printed ran
+  pub left : Left ran

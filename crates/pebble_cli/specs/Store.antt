@@ -1,26 +1,29 @@
--- What a store holds.
-use Rattle.std.specs.Prelude.{ℕ, Bool, false, List, refl}
+-- What an open store holds in memory.
+use Rattle.std.specs.Prelude.{ℕ, List, Option, Some, None, refl}
 use Rattle.std.specs.Ordering.{nat_cmp}
 use Rattle.std.specs.Cmp.Lexicographic.{slice_cmp}
-use Rattle.std.specs.Coded.{Coded, code_by, coded×, coded_list, coded_bool, coded_ℕ}
-use Rattle.std.specs.FinMap.{FinMap, empty, code}
+use Rattle.std.specs.Coded.{Coded, code_by, coded×, coded_list, coded_ℕ}
+use Rattle.std.specs.FinMap.{FinMap, code, insert}
+use Rattle.pb_gate_log.specs.EachLog.{LogPlace}
 
 -- the value of each key
 abbrev pub Map : Type 0
 Map = FinMap (slice_cmp nat_cmp) (List ℕ)
 
-pub record State : Type 0 where
-  pub is_open : Bool
+-- a map with one pair set beside it
+abbrev pub with_last : Option (List ℕ × List ℕ) → Map → Map
+with_last None map = map
+with_last (Some pair) map = insert map pair.0 pair.1
+
+pub record Held : Type 0 where
+  -- its log
+  pub log : LogPlace
   -- how many commands were accepted
   pub count : ℕ
   pub map : Map
 
--- a state is stored as the tuple of its fields
-abbrev pub state_code : Coded State
-state_code =
-    code_by (Bool × (ℕ × Map)) (coded× coded_bool (coded× coded_ℕ (code (coded_list coded_ℕ) (coded_list coded_ℕ))))
-    (λ s. (s.is_open, (s.count, s.map))) (λ p. record { is_open = p.0; count = p.1.0; map = p.1.1 }) (λ _. refl)
-
--- a store before its first `open`
-abbrev pub closed : State
-closed = record { is_open = false; count = 0; map = empty }
+-- it is stored as the tuple of its fields
+abbrev pub held_code : Coded Held
+held_code =
+    code_by ((List ℕ × ℕ) × (ℕ × Map)) (coded× (coded× (coded_list coded_ℕ) coded_ℕ) (coded× coded_ℕ (code (coded_list coded_ℕ) (coded_list coded_ℕ))))
+    (λ h. ((h.log.file, h.log.gate), (h.count, h.map))) (λ p. record { log = record { file = p.0.0; gate = p.0.1 }; count = p.1.0; map = p.1.1 }) (λ _. refl)

@@ -1,5 +1,11 @@
+//! Devices over the host's own system. They tell nothing of what they hold.
 ghost use Rattle.std.specs.Prelude.{◌≡◌, [], false};
 
+mod disk;
+mod file;
+mod folder;
+
+pub use disk::HostDisk;
 use pb_devices::{Failed, Sink, Source};
 use std::io::{Read, Write};
 

@@ -3,22 +3,25 @@
 
 mod host;
 mod line;
-mod no_device;
+mod open_log;
+mod opened;
 mod pairs;
 mod print;
 mod reply;
 mod run;
 mod script;
+mod setting;
 mod status;
 mod store;
 mod word;
 mod words;
 
-use host::{HostIn, HostOut};
-use no_device::NoDevice;
+use host::{HostDisk, HostIn, HostOut};
 use pb_devices::Trace;
+use pb_mem::MemBucket;
 use run::run;
 use status::Status;
+use std::alloc::AllocError;
 use std::io;
 use std::process::ExitCode;
 use words::host_words;
@@ -33,15 +36,33 @@ fn main(rt: HostRuntime) -> ExitCode {
     ExitCode::from(status as u8)
 }
 
-/// Runs the words over the standard streams.
+/// Runs the words over the standard streams, the folders of the stores and an empty bucket.
 fn run_host(rt: &HostRuntime, words: &[String]) -> Status {
+    let Ok(mut disks) = host_disks(rt) else {
+        return Status::Memory;
+    };
     run(
         rt.alloc(),
         words,
         &mut HostIn::new(rt.stdin()),
         &mut HostOut::new(rt.stdout()),
-        &mut [NoDevice::new(); 8],
-        &mut NoDevice::new(),
+        &mut disks,
+        &mut MemBucket::new(rt.alloc(), Vec::new(rt.alloc())),
         &mut Trace::new(rt.alloc()),
     )
+}
+
+/// The folders of the stores A to H.
+fn host_disks(rt: &HostRuntime) -> Result<[HostDisk; 8], AllocError> {
+    let disk = |path: &str| HostDisk::new(rt.alloc(), *rt, path);
+    Ok([
+        disk("stores/A")?,
+        disk("stores/B")?,
+        disk("stores/C")?,
+        disk("stores/D")?,
+        disk("stores/E")?,
+        disk("stores/F")?,
+        disk("stores/G")?,
+        disk("stores/H")?,
+    ])
 }

@@ -3,7 +3,8 @@ ghost use Rattle.pebble_cli.specs.Machine.{mark_of, number_of};
 ghost use Rattle.pebble_cli.specs.Replies.{name_of, printed};
 
 use crate::word::Word;
-use pb_devices::Mark;
+use pb_devices::{Failed, Mark};
+use pb_gate_log::AppendError;
 use std::alloc::AllocError;
 
 /// Why a line was refused.
@@ -13,8 +14,48 @@ pub enum Refusal {
     NotOpen,
     /// The store is open already.
     AlreadyOpen,
+    /// The count would reach 2^62.
+    NumbersSpent,
+    /// A payload of the log is no command, or the counts don't rise.
+    Damaged,
+    /// A call of the disk failed.
+    DiskFault,
     /// There was no memory for the line.
     NoMemory,
+}
+
+impl From<AllocError> for Refusal {
+    ghost use Rattle.pebble_cli.specs.declared.reply.Refusal.TheVariants.{NoMemory};
+
+    ghost from_gives = { λ _ refusal. refusal ≡ NoMemory };
+
+    fn from(_: AllocError) -> Refusal {
+        Refusal::NoMemory
+    }
+}
+
+impl From<Failed> for Refusal {
+    ghost use Rattle.pebble_cli.specs.declared.reply.Refusal.TheVariants.{DiskFault};
+
+    ghost from_gives = { λ _ refusal. refusal ≡ DiskFault };
+
+    fn from(_: Failed) -> Refusal {
+        Refusal::DiskFault
+    }
+}
+
+/// A payload of two words is too large only for a log that is full, and then nothing was appended.
+impl From<AppendError> for Refusal {
+    ghost use Rattle.pebble_cli.specs.Replies.{append_refusal};
+
+    ghost from_gives = { λ error refusal. refusal ≡ append_refusal error };
+
+    fn from(error: AppendError) -> Refusal {
+        match error {
+            AppendError::Failed => Refusal::DiskFault,
+            AppendError::TooLarge => Refusal::NoMemory,
+        }
+    }
 }
 
 /// The reply to a line.
@@ -39,6 +80,9 @@ impl Refusal {
         match self {
             Refusal::NotOpen => 2,
             Refusal::AlreadyOpen => 3,
+            Refusal::NumbersSpent => 11,
+            Refusal::Damaged => 20,
+            Refusal::DiskFault => 22,
             Refusal::NoMemory => 24,
         }
     }
@@ -50,15 +94,18 @@ impl Refusal {
         match self {
             Refusal::NotOpen => "NotOpen",
             Refusal::AlreadyOpen => "AlreadyOpen",
+            Refusal::NumbersSpent => "NumbersSpent",
+            Refusal::Damaged => "Damaged 3.log",
+            Refusal::DiskFault => "DiskFault",
             Refusal::NoMemory => "NoMemory",
         }
     }
 }
 
 impl Reply {
-    /// The reply in numbers, for the trace. No store is Down.
-    pub fn mark(&self) -> Mark
-        ensures { result ≡ mark_of self.now }
+    /// The reply in numbers, for the trace, and whether A is Down after the line.
+    pub fn mark(&self, is_down: bool) -> Mark
+        ensures { result ≡ mark_of self.now is_down }
     {
         let (refusal, count) = match self {
             Reply::Opened(count) | Reply::Accepted(count) => (0, *count),
@@ -69,7 +116,7 @@ impl Reply {
             refusal,
             count,
             more: false,
-            down: [false; 8],
+            down: [is_down, false, false, false, false, false, false, false],
         }
     }
 

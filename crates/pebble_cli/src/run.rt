@@ -1,12 +1,16 @@
-ghost use Rattle.std.specs.Prelude.{◌≡◌, ◌+◌, ◌^◌, ◌<◌, ◌≤◌, ◌++◌, ◌∷◌, ◌⊎◌, ◌≢◌, [], true, length, map, string_bytes, MatchBool};
+ghost use Rattle.std.specs.Prelude.{◌≡◌, ◌+◌, ◌≤◌, ◌++◌, ◌∷◌, ◌⊎◌, ◌≢◌, [], true, List, length, map, string_bytes, MatchBool, Option, ℕ};
+ghost use Rattle.pb_devices.specs.Contents.{MayLeave};
 ghost use Rattle.pb_devices.specs.Counts.{Rose};
 ghost use Rattle.pebble_cli.specs.Lines.{first_fault};
-ghost use Rattle.pebble_cli.specs.Machine.{mark_of, IsReply, state_after};
-ghost use Rattle.pebble_cli.specs.Runs.{script as script_task, fault, usage, task_of, task_of_source, task_of_script, is_run, IsReadWhole, IsWhole, IsCutShort, Ends, Prints, Causes};
+ghost use Rattle.pebble_cli.specs.Folder.{log_name, payloads_in, HasFrom};
+ghost use Rattle.pebble_cli.specs.Headline.{Headline, IsGood};
+ghost use Rattle.pebble_cli.specs.Machine.{State, mark_of, reply_to, state_after};
+ghost use Rattle.pebble_cli.specs.StoreStates.{IsIn, Keeps, Finds, IsSetBy, is_down, map_in, ran_of};
+ghost use Rattle.pebble_cli.specs.Runs.{script as script_task, fault, usage, task_of, task_of_source, task_of_script, lines_due, is_run, IsReadWhole, IsWhole, IsCutShort, IsBeforeLines, Ends, Prints, Causes, Comes};
 
 use crate::line::Line;
 use crate::print::{fault_text, print_reply, say};
-use crate::reply::Reply;
+use crate::reply::{Refusal, Reply};
 use crate::script::{ParseError, ReadError, parse, read_script};
 use crate::status::Status;
 use crate::store::Store;
@@ -20,7 +24,8 @@ const USAGE: &[u8] = b"usage: pebble_cli run | pebble_cli gen N SEED\n";
 /// The text for a script that is too long.
 const TOO_LONG: &[u8] = b"too long\n";
 
-/// Runs the script that the words ask for, over the devices: docs/MODEL.md, "Run".
+/// Runs the script that the words ask for, over the devices: docs/MODEL.md, "Run". The folder of store A is that of the first
+/// disk.
 ///
 /// The script is read whole, parsed whole, and then its lines run in order. Each line's mark is in the trace before its reply
 /// is printed. Without memory the run ends with the status `Memory`, at any place.
@@ -36,48 +41,60 @@ pub fn run<I: Source, O: Sink, D: Disk, B: Bucket>(
     requires eight { length disks.old ≡ 8 }
     requires empty { trace.old.marks ≡ [] }
 
-    ensures ends { I.told ≡ true → Ends (task_of (map string_bytes words.now) (I.left script.old)) result trace.new.marks }
-    ensures prints { I.told ≡ true → O.told ≡ true → Prints
-        (task_of (map string_bytes words.now) (I.left script.old)) result trace.new.marks
-        (O.taken out.old) (O.taken out.new) (O.fault_count out.old) (O.fault_count out.new) }
-    ensures said { O.told ≡ true → result ≡ Status.Usage → Prints usage result trace.new.marks
+    // What the lines came to, what was printed, and, where each image of A's folder stood for some count and map, the
+    // headline: no stop and no fault loses an accepted command.
+    ensures comes { I.told ≡ true → (a b : D) (others : List D) → disks.old ≡ a ∷ others → disks.new ≡ b ∷ others
+        → Comes (task_of (map string_bytes words.now) (I.left script.old)) result trace.new.marks
+        (λ ran. O.told ≡ true → Prints (task_of (map string_bytes words.now) (I.left script.old)) result ran
+        (O.taken out.old) (O.taken out.new) (O.fault_count out.old) (O.fault_count out.new))
+        (λ ran. D.told ≡ true → IsGood (D.contents a)
+        → Headline (D.contents a) (D.contents b) (lines_due (task_of (map string_bytes words.now) (I.left script.old))) ran) }
+    ensures said { O.told ≡ true → result ≡ Status.Usage → Prints usage result []
         (O.taken out.old) (O.taken out.new) (O.fault_count out.old) (O.fault_count out.new) }
     ensures usage { MatchBool (is_run (map string_bytes words.now)) (result ≢ Status.Usage) (result ≡ Status.Usage) }
     ensures causes { Causes result trace.new.marks (O.fault_count out.old) (O.fault_count out.new) }
+    ensures device { (a b : D) (others : List D) → disks.old ≡ a ∷ others → disks.new ≡ b ∷ others
+        → result ≡ Status.Device → Rose (D.fault_count a) (D.fault_count b) }
 
     ensures read { result ≡ Status.Read → Rose (I.fault_count script.old) (I.fault_count script.new) }
     ensures whole { I.told ≡ true → IsReadWhole result → I.left script.new ≡ [] }
     ensures later { I.fault_count script.old ≤ I.fault_count script.new }
 
-    // No call of a disk or of the bucket is made.
-    ensures disks { disks.new ≡ disks.old }
+    // Before the first line no disk is called, and never any but the first, nor the bucket.
+    ensures untouched { IsBeforeLines result → disks.new ≡ disks.old }
+    ensures others { (a : D) (others : List D) → disks.old ≡ a ∷ others → (b : D) × (disks.new ≡ b ∷ others) }
     ensures bucket { bucket.new ≡ bucket.old }
 {
     if !is_run(words) {
         return say(out, USAGE, Status::Usage);
     }
-    run_source(alloc, script, out, trace)
+    run_source(alloc, script, out, &mut disks[0], trace)
 }
 
 /// Runs the script that a source has left.
-fn run_source<I: Source, O: Sink>(
+fn run_source<I: Source, O: Sink, D: Disk>(
     alloc: Global,
     source: &mut I,
     out: &mut O,
+    disk: &mut D,
     trace: &mut Trace,
 ) -> Status
     requires { trace.old.marks ≡ [] }
-    ensures ends { I.told ≡ true → Ends (task_of_source (I.left source.old)) result trace.new.marks }
-    ensures prints { I.told ≡ true → O.told ≡ true → Prints (task_of_source (I.left source.old)) result trace.new.marks
-        (O.taken out.old) (O.taken out.new) (O.fault_count out.old) (O.fault_count out.new) }
+    ensures comes { I.told ≡ true → Comes (task_of_source (I.left source.old)) result trace.new.marks
+        (λ ran. O.told ≡ true → Prints (task_of_source (I.left source.old)) result ran
+        (O.taken out.old) (O.taken out.new) (O.fault_count out.old) (O.fault_count out.new))
+        (λ ran. D.told ≡ true → IsGood (D.contents disk.old)
+        → Headline (D.contents disk.old) (D.contents disk.new) (lines_due (task_of_source (I.left source.old))) ran) }
     ensures usage { result ≢ Status.Usage }
     ensures causes { Causes result trace.new.marks (O.fault_count out.old) (O.fault_count out.new) }
+    ensures device { result ≡ Status.Device → Rose (D.fault_count disk.old) (D.fault_count disk.new) }
     ensures read { result ≡ Status.Read → Rose (I.fault_count source.old) (I.fault_count source.new) }
     ensures whole { I.told ≡ true → IsReadWhole result → I.left source.new ≡ [] }
     ensures later { I.fault_count source.old ≤ I.fault_count source.new }
+    ensures untouched { IsBeforeLines result → disk.new ≡ disk.old }
 {
     match read_script(alloc, source) {
-        Ok(script) => run_script(alloc, &script, out, trace),
+        Ok(script) => run_script(alloc, &script, out, disk, trace),
         Err(ReadError::TooLong) => say(out, TOO_LONG, Status::TooLong),
         Err(ReadError::Failed) => Status::Read,
         Err(ReadError::NoMemory) => Status::Memory,
@@ -85,16 +102,26 @@ fn run_source<I: Source, O: Sink>(
 }
 
 /// Runs a script that isn't too long.
-fn run_script<O: Sink>(alloc: Global, script: &[u8], out: &mut O, trace: &mut Trace) -> Status
+fn run_script<O: Sink, D: Disk>(
+    alloc: Global,
+    script: &[u8],
+    out: &mut O,
+    disk: &mut D,
+    trace: &mut Trace,
+) -> Status
     requires { trace.old.marks ≡ [] }
-    ensures ends { Ends (task_of_script script.now (first_fault script.now)) result trace.new.marks }
-    ensures prints { O.told ≡ true → Prints (task_of_script script.now (first_fault script.now)) result trace.new.marks
-        (O.taken out.old) (O.taken out.new) (O.fault_count out.old) (O.fault_count out.new) }
+    ensures comes { Comes (task_of_script script.now (first_fault script.now)) result trace.new.marks
+        (λ ran. O.told ≡ true → Prints (task_of_script script.now (first_fault script.now)) result ran
+        (O.taken out.old) (O.taken out.new) (O.fault_count out.old) (O.fault_count out.new))
+        (λ ran. D.told ≡ true → IsGood (D.contents disk.old)
+        → Headline (D.contents disk.old) (D.contents disk.new) (lines_due (task_of_script script.now (first_fault script.now))) ran) }
     ensures usage { (result ≢ Status.Usage) × (result ≢ Status.Read) × (result ≢ Status.TooLong) }
     ensures causes { Causes result trace.new.marks (O.fault_count out.old) (O.fault_count out.new) }
+    ensures device { result ≡ Status.Device → Rose (D.fault_count disk.old) (D.fault_count disk.new) }
+    ensures untouched { IsBeforeLines result → disk.new ≡ disk.old }
 {
     match parse(alloc, script) {
-        Ok(lines) => run_lines(alloc, lines, out, trace),
+        Ok(lines) => run_lines(alloc, lines, out, disk, trace),
         Err(ParseError::Fault(number)) => say_fault(alloc, number, out),
         Err(ParseError::NoMemory) => Status::Memory,
     }
@@ -115,22 +142,31 @@ fn say_fault<O: Sink>(alloc: Global, number: u64, out: &mut O) -> Status
 }
 
 /// Runs the lines of a script in order.
-fn run_lines<O: Sink>(alloc: Global, lines: Vec<Line>, out: &mut O, trace: &mut Trace) -> Status
+fn run_lines<O: Sink, D: Disk>(
+    alloc: Global,
+    lines: Vec<Line>,
+    out: &mut O,
+    disk: &mut D,
+    trace: &mut Trace,
+) -> Status
     requires { trace.old.marks ≡ [] }
-    ensures ends { Ends (script_task lines.items) result trace.new.marks }
-    ensures prints { O.told ≡ true → Prints (script_task lines.items) result trace.new.marks
-        (O.taken out.old) (O.taken out.new) (O.fault_count out.old) (O.fault_count out.new) }
+    ensures comes { Comes (script_task lines.items) result trace.new.marks
+        (λ ran. O.told ≡ true → Prints (script_task lines.items) result ran
+        (O.taken out.old) (O.taken out.new) (O.fault_count out.old) (O.fault_count out.new))
+        (λ ran. D.told ≡ true → IsGood (D.contents disk.old)
+        → Headline (D.contents disk.old) (D.contents disk.new) lines.items ran) }
     ensures status { IsWhole result ⊎ IsCutShort result }
     ensures causes { Causes result trace.new.marks (O.fault_count out.old) (O.fault_count out.new) }
+    ensures device { result ≡ Status.Device → Rose (D.fault_count disk.old) (D.fault_count disk.new) }
 {
     if trace.reserve(lines.len() as u64).is_err() {
         return Status::Memory;
     }
-    let mut store = Store::new(alloc);
+    let mut store = Store::Closed;
     let mut text = String::new(alloc);
     let mut status = Status::Done;
     for line in lines {
-        let reply = run_line(&mut store, line, trace);
+        let reply = run_line(&mut store, alloc, disk, line, trace);
         if let Err(early) = print_reply(&reply, &mut text, out) {
             return early;
         }
@@ -140,18 +176,32 @@ fn run_lines<O: Sink>(alloc: Global, lines: Vec<Line>, out: &mut O, trace: &mut 
 }
 
 /// Runs a line, and adds its mark to the trace: a reply that doesn't reach the sink has its mark.
-fn run_line(store: &mut Store, line: Line, trace: &mut Trace) -> Reply
-    requires count { store.old.count + 1 < 2 ^ 64 }
+fn run_line<D: Disk>(
+    store: &mut Store,
+    alloc: Global,
+    disk: &mut D,
+    line: Line,
+    trace: &mut Trace,
+) -> Reply
+    requires kept { D.told ≡ true → Keeps store.old (D.contents disk.old) }
     requires spare { 1 ≤ trace.old.spare }
-    ensures reply { IsReply store.old line result }
-    ensures state { store.new ≡ state_after store.old line (mark_of result) }
-    ensures marks { trace.new.marks ≡ trace.old.marks ++ mark_of result ∷ [] }
+    ensures kept { D.told ≡ true → Keeps store.new (D.contents disk.new) }
+    ensures reply { (state : State) → IsIn store.old state → result ≡ reply_to state line (ran_of result store.new).mark }
+    ensures state { (state : State) → IsIn store.old state → IsIn store.new (state_after state line (ran_of result store.new)) }
+    ensures found { D.told ≡ true → Finds (payloads_in ((D.contents disk.old).seen log_name)) line result (map_in store.new) }
+    ensures crash { D.told ≡ true → (image : Option (List ℕ)) → MayLeave (D.contents disk.new) log_name image
+        → HasFrom (D.contents disk.old) image ⊎ IsSetBy store.old line image }
+    ensures later { D.fault_count disk.old ≤ D.fault_count disk.new }
+    ensures fault { result ≡ Reply.Refused Refusal.DiskFault → Rose (D.fault_count disk.old) (D.fault_count disk.new) }
+    ensures marks { trace.new.marks ≡ trace.old.marks ++ (ran_of result store.new).mark ∷ [] }
     ensures spare { trace.new.spare + 1 ≡ trace.old.spare }
 {
-    let reply = store.line(line);
-    trace.add(reply.mark());
+    let reply = store.line(alloc, disk, line);
+    trace.add(reply.mark(store.is_down()));
     reply
 }
 
+#[cfg(test)]
+mod fault_tests;
 #[cfg(test)]
 mod tests;

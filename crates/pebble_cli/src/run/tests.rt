@@ -1,7 +1,6 @@
 use super::*;
-use crate::no_device::NoDevice;
 use crate::script::MAX_SCRIPT;
-use pb_mem::{MemSink, MemSource};
+use pb_mem::{MemBucket, MemDisk, MemSink, MemSource};
 use std::alloc::AllocError;
 use std::test::Fail;
 
@@ -11,6 +10,19 @@ struct Outcome {
     status: Status,
     printed: Vec<u8>,
     trace: Trace,
+}
+
+fn empty_disks(alloc: Global) -> [MemDisk; 8] {
+    [
+        MemDisk::new(alloc, Vec::new(alloc), 0),
+        MemDisk::new(alloc, Vec::new(alloc), 0),
+        MemDisk::new(alloc, Vec::new(alloc), 0),
+        MemDisk::new(alloc, Vec::new(alloc), 0),
+        MemDisk::new(alloc, Vec::new(alloc), 0),
+        MemDisk::new(alloc, Vec::new(alloc), 0),
+        MemDisk::new(alloc, Vec::new(alloc), 0),
+        MemDisk::new(alloc, Vec::new(alloc), 0),
+    ]
 }
 
 fn run_over_memory(
@@ -32,8 +44,8 @@ fn run_over_memory(
         &owned,
         &mut source,
         &mut sink,
-        &mut [NoDevice::new(); 8],
-        &mut NoDevice::new(),
+        &mut empty_disks(alloc),
+        &mut MemBucket::new(alloc, Vec::new(alloc)),
         &mut trace,
     );
     Ok(Outcome {

@@ -1,61 +1,182 @@
-use Rattle.std.proofs.Common.{◌++◌, ◌∙◌, sym, ap, subst, append_assoc, length, arith}
+use Rattle.std.proofs.Common.{◌++◌, ◌∙◌, List, [], inl, inr, refl, sym, ap, subst, append_assoc, append-nil, length, arith}
+use Rattle.std.proofs.lemmas.Grind.{common_steps}
 use Rattle.std.specs.Vec.Iter.{into_iter_items}
+use Rattle.pebble_cli.proofs.Counting.{rose_later, rose_from}
+use Rattle.pebble_cli.specs.Folder.{log_name}
+use Rattle.pebble_cli.specs.Machine.{closed}
 use Rattle.pebble_cli.specs.Replies.{printed}
 use Rattle.pebble_cli.specs.Runs.{TakesPart, status_of}
-use Rattle.pebble_cli.proofs.Progress.{texts, texts_ran, line_ran, part_step, cut_prints, all_ends, all_prints}
+use Rattle.pebble_cli.specs.StoreStates.{is_down}
+use Rattle.pebble_cli.specs.declared.line.Line.{Line}
+use Rattle.pebble_cli.specs.declared.status.Status.TheVariants.{Memory}
+use Rattle.pebble_cli.proofs.Crash.{Safe, safe_start, safe_step, safe_headline, nothing_ran}
+use Rattle.pebble_cli.proofs.Progress.{texts, texts_ran, going_start, going_step, reaches_start, part_step, no_part, cut_ends, cut_prints, all_ends, all_prints}
 use Rattle.pebble_cli.proofs.run.run_lines.Goals as goal
 
-pub returns-in-Err-clause-prints : goal.returns-in-Err-clause-prints
-returns-in-Err-clause-prints g c = λ told.
-    let kept = c.loop-line.invariant.2 in
-    let reply = c.run_line-reply.result in
-    let before = g.O.Sink.taken c.args.out.now in
-    let now = g.O.Sink.taken c.print_reply.new.out in
-    let ran =
-    texts_ran c.args.lines.items (into_iter_items c.loop-line.line-iterator) (into_iter_items c.next.new.self)
-    c.loop-line.trace.marks c.run_line-reply.new.trace.marks c.loop-line.store c.in-Some.line reply
-    kept.so_far c.in-Some.ensures.steps.0 c.run_line-reply.ensures.reply c.run_line-reply.ensures.marks in
-    let part =
-    part_step before (texts c.args.lines.items c.loop-line.trace.marks) now (printed reply)
-    (subst (λ b. TakesPart b now (printed reply)) (kept.taken told) (c.in-Err.ensures.err told)) in
-    cut_prints c.args.lines.items c.run_line-reply.new.trace.marks c.in-Err.early before now _ _
-    c.in-Err.ensures.status (subst (TakesPart before now) (sym ran) part)
+pub loop-line-init : goal.loop-line-init
+loop-line-init g c =
+    let lines = c.args.lines.items in
+    let left = into_iter_items c.into_iter-line-iterator.result in
+    let gives = c.into_iter-line-iterator.ensures.into_iter_gives in
+    let none = c.reserve.ensures.marks ∙ c.requires in
+    let entry = g.D.Disk.contents c.args.disk.now in (
+      tt,
+      tt,
+      (
+        going_start lines left c.reserve.new.self.marks gives.0 none,
+        record {
+          left = grind (arith, common_steps, gives.0, gives.1);
+          room = grind (arith, common_steps, gives.0, gives.1);
+          taken = λ told. sym (append-nil (g.O.Sink.taken c.args.out.now));
+          status = ap status_of (sym none);
+          later = omega arith;
+          kept = λ told. tt;
+          safe = λ told good.
+              subst (λ (rest : List Line). Safe entry entry lines rest [] closed) (sym gives.0)
+              (safe_start entry lines (λ name. g.met.D.Disk.seen_may_be_left c.args.disk.now name told) good);
+          disk_later = omega arith;
+          device = λ is. cc;
+        },
+      ),
+    )
 
 pub loop-line-preserved-in_default : goal.loop-line-preserved-in_default
 loop-line-preserved-in_default g c =
-    let kept = c.loop-line.invariant.2 in
+    let going = c.loop-line.invariant.2.0 in
+    let kept = c.loop-line.invariant.2.1 in
     let reply = c.run_line-reply.result in
-    let before = g.O.Sink.taken c.args.out.now in (
+    let e = c.run_line-reply.ensures in
+    let lines = c.args.lines.items in
+    let left = into_iter_items c.loop-line.line-iterator in
+    let rest = into_iter_items c.next.new.self in
+    let before = c.loop-line.store in
+    let after = c.run_line-reply.new.store in
+    let steps = c.in-Some.ensures.steps.0 in
+    let taken = g.O.Sink.taken c.args.out.now in (
       tt,
       tt,
-      record {
-        so_far =
-            line_ran c.args.lines.items (into_iter_items c.loop-line.line-iterator) (into_iter_items c.next.new.self)
-            c.loop-line.trace.marks c.run_line-reply.new.trace.marks c.loop-line.store c.run_line-reply.new.store c.in-Some.line reply
-            kept.so_far c.in-Some.ensures.steps.0 c.run_line-reply.ensures.reply c.run_line-reply.ensures.state c.run_line-reply.ensures.marks;
-        left = omega (arith, kept.left, ap length c.in-Some.ensures.steps.0, c.in-Some.ensures.steps.1);
-        room = omega (arith, kept.room, ap length c.in-Some.ensures.steps.0, c.run_line-reply.ensures.spare);
-        taken = λ told.
-            let ran =
-            texts_ran c.args.lines.items (into_iter_items c.loop-line.line-iterator) (into_iter_items c.next.new.self)
-            c.loop-line.trace.marks c.run_line-reply.new.trace.marks c.loop-line.store c.in-Some.line reply
-            kept.so_far c.in-Some.ensures.steps.0 c.run_line-reply.ensures.reply c.run_line-reply.ensures.marks in
-            c.in_default.ensures.ok told
-            ∙ ap (λ b. b ++ printed reply) (kept.taken told)
-            ∙ append_assoc before (texts c.args.lines.items c.loop-line.trace.marks) (printed reply)
-            ∙ ap (λ t. before ++ t) (sym ran);
-        status = c.with-status.ensures c.loop-line.trace.marks kept.status ∙ ap status_of (sym c.run_line-reply.ensures.marks);
-        later = omega (arith, kept.later, c.print_reply.ensures.later);
-      },
+      (
+        going_step lines left rest c.loop-line.trace.marks c.run_line-reply.new.trace.marks before after c.in-Some.line reply going steps e.reply e.state e.marks,
+        record {
+          left = omega (arith, kept.left, ap length steps, c.in-Some.ensures.steps.1);
+          room = omega (arith, kept.room, ap length steps, e.spare);
+          taken = λ told.
+              c.in_default.ensures.ok told
+              ∙ ap (λ b. b ++ printed reply) (kept.taken told)
+              ∙ append_assoc taken (texts lines going.ran) (printed reply)
+              ∙ ap (λ t. taken ++ t) (sym (texts_ran lines left rest c.loop-line.trace.marks before after c.in-Some.line reply going steps e.reply));
+          status = c.with-status.ensures.status c.loop-line.trace.marks (is_down after) kept.status ∙ ap status_of (sym e.marks);
+          later = omega (arith, kept.later, c.print_reply.ensures.later);
+          kept = e.kept;
+          safe = λ told good.
+              safe_step (g.D.Disk.contents c.args.disk.now) (g.D.Disk.contents c.loop-line.disk) (g.D.Disk.contents c.run_line-reply.new.disk) lines left rest going.ran going.state before after c.in-Some.line reply
+              (kept.safe told good) steps going.is_in (e.reply going.state going.is_in) (e.state going.state going.is_in) (e.kept told)
+              (g.met.D.Disk.seen_may_be_left c.loop-line.disk log_name told) (e.found told) (e.crash told);
+          disk_later = omega (arith, kept.disk_later, e.later);
+          device = λ is. elim (c.with-status.ensures.device is) [
+            | inl was ↦ rose_later _ _ _ (kept.device was) e.later
+            | inr fault ↦ rose_from _ _ _ kept.disk_later (e.fault fault)
+          ];
+        },
+      ),
     )
 
-pub returns-clause-ends : goal.returns-clause-ends
-returns-clause-ends g c =
-    let kept = c.loop-line.invariant.2 in
-    all_ends c.args.lines.items (into_iter_items c.loop-line.line-iterator) c.loop-line.trace.marks c.loop-line.store c.loop-line.status
-    kept.so_far (omega (arith, kept.left, c.in-None.ensures.steps.0)) kept.status
+pub loop-line-preserved : goal.loop-line-preserved
+loop-line-preserved g c =
+    let going = c.loop-line.invariant.2.0 in
+    let kept = c.loop-line.invariant.2.1 in
+    let reply = c.run_line-reply.result in
+    let e = c.run_line-reply.ensures in
+    let lines = c.args.lines.items in
+    let left = into_iter_items c.loop-line.line-iterator in
+    let rest = into_iter_items c.next.new.self in
+    let before = c.loop-line.store in
+    let after = c.run_line-reply.new.store in
+    let steps = c.in-Some.ensures.steps.0 in
+    let taken = g.O.Sink.taken c.args.out.now in (
+      tt,
+      tt,
+      (
+        going_step lines left rest c.loop-line.trace.marks c.run_line-reply.new.trace.marks before after c.in-Some.line reply going steps e.reply e.state e.marks,
+        record {
+          left = omega (arith, kept.left, ap length steps, c.in-Some.ensures.steps.1);
+          room = omega (arith, kept.room, ap length steps, e.spare);
+          taken = λ told.
+              c.in_default.ensures.ok told
+              ∙ ap (λ b. b ++ printed reply) (kept.taken told)
+              ∙ append_assoc taken (texts lines going.ran) (printed reply)
+              ∙ ap (λ t. taken ++ t) (sym (texts_ran lines left rest c.loop-line.trace.marks before after c.in-Some.line reply going steps e.reply));
+          status = c.with-status.ensures.status c.loop-line.trace.marks (is_down after) kept.status ∙ ap status_of (sym e.marks);
+          later = omega (arith, kept.later, c.print_reply.ensures.later);
+          kept = e.kept;
+          safe = λ told good.
+              safe_step (g.D.Disk.contents c.args.disk.now) (g.D.Disk.contents c.loop-line.disk) (g.D.Disk.contents c.run_line-reply.new.disk) lines left rest going.ran going.state before after c.in-Some.line reply
+              (kept.safe told good) steps going.is_in (e.reply going.state going.is_in) (e.state going.state going.is_in) (e.kept told)
+              (g.met.D.Disk.seen_may_be_left c.loop-line.disk log_name told) (e.found told) (e.crash told);
+          disk_later = omega (arith, kept.disk_later, e.later);
+          device = λ is. elim (c.with-status.ensures.device is) [
+            | inl was ↦ rose_later _ _ _ (kept.device was) e.later
+            | inr fault ↦ rose_from _ _ _ kept.disk_later (e.fault fault)
+          ];
+        },
+      ),
+    )
 
-pub returns-clause-prints : goal.returns-clause-prints
-returns-clause-prints g c = λ told.
-    let kept = c.loop-line.invariant.2 in
-    all_prints c.args.lines.items c.loop-line.trace.marks c.loop-line.status _ _ _ _ kept.status (kept.taken told)
+pub returns-then-is_err-clause-comes : goal.returns-then-is_err-clause-comes
+returns-then-is_err-clause-comes g c =
+    let lines = c.args.lines.items in
+    record {
+      ran = [];
+      marked = c.reserve.ensures.marks ∙ c.requires;
+      ends = cut_ends lines lines [] closed Memory (reaches_start lines) tt;
+      printed = λ told.
+          (let taken = g.O.Sink.taken c.args.out.now in
+          let faults = g.O.Sink.fault_count c.args.out.now in
+          cut_prints lines [] Memory taken taken faults faults tt (no_part taken (texts lines []) taken refl));
+      left = λ told good. nothing_ran (g.D.Disk.contents c.args.disk.now) lines (λ name. g.met.D.Disk.seen_may_be_left c.args.disk.now name told) good;
+    }
+
+pub returns-in-Err-clause-comes : goal.returns-in-Err-clause-comes
+returns-in-Err-clause-comes g c =
+    let going = c.loop-line.invariant.2.0 in
+    let kept = c.loop-line.invariant.2.1 in
+    let reply = c.run_line-reply.result in
+    let e = c.run_line-reply.ensures in
+    let lines = c.args.lines.items in
+    let left = into_iter_items c.loop-line.line-iterator in
+    let rest = into_iter_items c.next.new.self in
+    let before = c.loop-line.store in
+    let after = c.run_line-reply.new.store in
+    let steps = c.in-Some.ensures.steps.0 in
+    let taken = g.O.Sink.taken c.args.out.now in
+    let now = g.O.Sink.taken c.print_reply.new.out in
+    let done = going_step lines left rest c.loop-line.trace.marks c.run_line-reply.new.trace.marks before after c.in-Some.line reply going steps e.reply e.state e.marks in
+    record {
+      ran = done.ran;
+      marked = done.marked;
+      ends = cut_ends lines rest done.ran done.state c.in-Err.early done.so_far c.in-Err.ensures.status;
+      printed = λ told.
+          cut_prints lines done.ran c.in-Err.early taken now _ _ c.in-Err.ensures.status
+          (subst (TakesPart taken now) (sym (texts_ran lines left rest c.loop-line.trace.marks before after c.in-Some.line reply going steps e.reply))
+          (part_step taken (texts lines going.ran) now (printed reply)
+          (subst (λ b. TakesPart b now (printed reply)) (kept.taken told) (c.in-Err.ensures.err told))));
+      left = λ told good.
+          safe_headline (g.D.Disk.contents c.args.disk.now) (g.D.Disk.contents c.run_line-reply.new.disk) lines rest done.ran done.state done.so_far
+          (safe_step (g.D.Disk.contents c.args.disk.now) (g.D.Disk.contents c.loop-line.disk) (g.D.Disk.contents c.run_line-reply.new.disk) lines left rest going.ran going.state before after c.in-Some.line reply
+          (kept.safe told good) steps going.is_in (e.reply going.state going.is_in) (e.state going.state going.is_in) (e.kept told)
+          (g.met.D.Disk.seen_may_be_left c.loop-line.disk log_name told) (e.found told) (e.crash told));
+    }
+
+pub returns-clause-comes : goal.returns-clause-comes
+returns-clause-comes g c =
+    let going = c.loop-line.invariant.2.0 in
+    let kept = c.loop-line.invariant.2.1 in
+    let lines = c.args.lines.items in
+    let left = into_iter_items c.loop-line.line-iterator in
+    record {
+      ran = going.ran;
+      marked = going.marked;
+      ends = all_ends lines left going.ran c.loop-line.trace.marks going.state c.loop-line.status going.so_far (omega (arith, kept.left, c.in-None.ensures.steps.0)) kept.status;
+      printed = λ told. all_prints lines going.ran c.loop-line.trace.marks c.loop-line.status _ _ _ _ kept.status (kept.taken told);
+      left = λ told good. safe_headline (g.D.Disk.contents c.args.disk.now) (g.D.Disk.contents c.loop-line.disk) lines left going.ran going.state going.so_far (kept.safe told good);
+    }

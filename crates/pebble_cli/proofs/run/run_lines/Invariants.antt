@@ -1,18 +1,27 @@
 use Rattle.std.proofs.Common.{◌≡◌, ◌++◌, ◌≤◌, true, length}
 use Rattle.std.specs.Vec.Iter.{into_iter_items, into_iter_len}
+use Rattle.pb_devices.specs.Counts.{Rose}
+use Rattle.pebble_cli.specs.Headline.{IsGood}
 use Rattle.pebble_cli.specs.Runs.{status_of}
-use Rattle.pebble_cli.proofs.Progress.{Reaches, texts}
+use Rattle.pebble_cli.specs.StoreStates.{Keeps}
+use Rattle.pebble_cli.specs.declared.status.Status.TheVariants.{Device}
+use Rattle.pebble_cli.proofs.Crash.{Safe}
+use Rattle.pebble_cli.proofs.Progress.{Going, texts}
 use Rattle.pebble_cli.proofs.run.run_lines.Given as goal
 
 abbrev pub invariant-loop-line : goal.invariant-loop-line
 invariant-loop-line g l =
     (goal.iterator-loop-line g).can_next l.line-iterator ×
     (goal.iterator-loop-line g).is_finite l.line-iterator ×
-    record {
-      so_far : Reaches l.fn.lines.items l.trace.marks l.store (into_iter_items l.line-iterator);
+    ((going : Going l.fn.lines.items (into_iter_items l.line-iterator) l.trace.marks l.store) × record {
       left : into_iter_len l.line-iterator ≡ length (into_iter_items l.line-iterator);
       room : length (into_iter_items l.line-iterator) ≤ l.trace.spare;
-      taken : g.O.Sink.told ≡ true → g.O.Sink.taken l.out ≡ g.O.Sink.taken l.initial.out ++ texts l.fn.lines.items l.trace.marks;
+      taken : g.O.Sink.told ≡ true → g.O.Sink.taken l.out ≡ g.O.Sink.taken l.initial.out ++ texts l.fn.lines.items going.ran;
       status : l.status ≡ status_of l.trace.marks;
       later : g.O.Sink.fault_count l.initial.out ≤ g.O.Sink.fault_count l.out;
-    }
+      kept : g.D.Disk.told ≡ true → Keeps l.store (g.D.Disk.contents l.disk);
+      safe : g.D.Disk.told ≡ true → IsGood (g.D.Disk.contents l.initial.disk)
+          → Safe (g.D.Disk.contents l.initial.disk) (g.D.Disk.contents l.disk) l.fn.lines.items (into_iter_items l.line-iterator) going.ran going.state;
+      disk_later : g.D.Disk.fault_count l.initial.disk ≤ g.D.Disk.fault_count l.disk;
+      device : l.status ≡ Device → Rose (g.D.Disk.fault_count l.initial.disk) (g.D.Disk.fault_count l.disk);
+    })

@@ -1,0 +1,55 @@
+-- A payload spells one command at most.
+use Rattle.std.proofs.Common.{◌≡◌, ℕ, ◌<◌, ◌^◌, List, [], ◌∷◌, ◌++◌, length, take, drop, ◌-◌, Option, None, IfNone, refl, sym, ◌∙◌, subst, ap, arith, append-nil, true, false, Bool, ◌&&◌, leb}
+use Rattle.std.proofs.lemmas.Bool.{leb-true}
+use Rattle.std.specs.List.{list_all}
+use Rattle.pebble_cli.specs.Words.{is_word_byte}
+use Rattle.pb_bytes.specs.Varint.{varint, field}
+use Rattle.std.proofs.lemmas.List.{take-append-drop}
+use Rattle.pb_bytes.proofs.ReadingLemmas.{one_varint, one_field, rest_of}
+use Rattle.pebble_cli.specs.Words.{IsWord}
+use Rattle.pebble_cli.specs.Settings.{Set, IsSet, payload_of}
+
+-- what holds of no value holds of none
+pub if_none : {T : Type 0} (o : Option T) (P : Type 0) → o ≡ None → P → IfNone o P
+if_none o P is h = subst (λ (x : Option _). IfNone x P) (sym is) h
+
+pub same_count : (m n : ℕ) (x y : List ℕ) → m < 2 ^ 62 → n < 2 ^ 62 → varint m ++ 1 ∷ x ≡ varint n ++ 1 ∷ y → (m ≡ n) × (x ≡ y)
+same_count m n x y low below e =
+    let same = one_varint m n (1 ∷ x) (1 ∷ y) (omega arith) (omega arith) e in
+    let rest : 1 ∷ x ≡ 1 ∷ y = same.1 in
+    (same.0, cc)
+
+first : (a b : Bool) → (a && b) ≡ true → a ≡ true
+first true b e = refl
+first false b e = e
+
+second : (a b : Bool) → (a && b) ≡ true → b ≡ true
+second true b e = e
+second false b e = cc
+
+pub word_short : (bytes : List ℕ) → IsWord bytes → length bytes < 2 ^ 64
+word_short bytes word =
+    let a = leb 1 (length bytes) in
+    let b = leb (length bytes) 48 in
+    let within : leb (length bytes) 48 ≡ true = second a b (first (a && b) (list_all is_word_byte bytes) word) in
+    omega (arith, leb-true (length bytes) 48 within)
+
+-- behind a count, a kind and fields that begin a command's payload, the rest of the command stands
+pub behind_count : (payload rest : List ℕ) (count : ℕ) (set : Set) → count < 2 ^ 62 → IsSet set → payload ≡ varint count ++ 1 ∷ rest → payload ≡ payload_of set → rest ≡ field set.key ++ field set.value
+behind_count payload rest count set below is found spelled = (same_count count set.count rest (field set.key ++ field set.value) below is.count (sym found ∙ spelled)).1
+
+pub behind_field : (from content rest bytes more : List ℕ) → length content < 2 ^ 64 → length bytes < 2 ^ 64 → from ≡ field content ++ rest → from ≡ field bytes ++ more → rest ≡ more
+behind_field from content rest bytes more short low found spelled = (one_field content bytes rest more short low (sym found ∙ spelled)).1
+
+pub field_alone : (from bytes : List ℕ) → from ≡ field bytes → from ≡ field bytes ++ []
+field_alone from bytes e = e ∙ sym (append-nil (field bytes))
+
+-- what is left behind a varint that was read is what was spelled behind the number
+pub behind_varint : (payload rest : List ℕ) (used read count : ℕ) → read < 2 ^ 64 → count < 2 ^ 62 → take used payload ≡ varint read → payload ≡ varint count ++ 1 ∷ rest → (read ≡ count) × (take (length payload - used) (drop used payload) ≡ 1 ∷ rest)
+behind_varint payload rest used read count fits low found spelled =
+    let whole : varint read ++ drop used payload ≡ payload = ap (λ front. front ++ drop used payload) (sym found) ∙ take-append-drop used payload in
+    let same = one_varint read count (drop used payload) (1 ∷ rest) fits (omega arith) (whole ∙ spelled) in
+    (same.0, rest_of used payload ∙ same.1)
+
+pub not_empty : (rest : List ℕ) → rest ≡ [] → (length rest ≡ 0 → ⊥) → ⊥
+not_empty rest e h = h (ap length e)

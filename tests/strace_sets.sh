@@ -1,0 +1,91 @@
+#!/usr/bin/env bash
+# Counts the syncs of two sets on real folders, and fails some of them. Skipped where strace isn't installed or may not trace.
+set -u
+top=$(cd "$(dirname "$0")/.." && pwd)
+program=$top/pebble_cli
+passed=0
+failed=0
+
+# check NAME WANTED GOT
+check() {
+  if [ "$2" = "$3" ]; then
+    passed=$((passed + 1))
+  else
+    failed=$((failed + 1))
+    printf '%s: wanted\n%s\ngot\n%s\n' "$1" "$2" "$3"
+  fi
+}
+
+# run LINE..: runs the lines as a script on the folder's stores, and keeps its output and status in `out`.
+run() {
+  printf '%s\n' "$@" | "$program" run >out
+  echo "status $?" >>out
+}
+
+# trace STRACE_OPTION LINE..: the same under strace. Its calls come into `calls`, in order.
+trace() {
+  printf '%s\n' "${@:2}" | strace -o calls -e trace=fsync,fdatasync,rename,write $1 "$program" run >out
+  echo "status $?" >>out
+}
+
+# Runs under strace, where the sync of this number fails, and is not made.
+trace_failing() {
+  trace "-e inject=fsync,fdatasync:error=EIO:when=$1" "${@:2}"
+}
+
+# The number of syncs before each reply of the last run, a line each.
+syncs_by_reply() {
+  awk '/^f(data)?sync\(/ { syncs++ } /^write\(1,/ { print syncs + 0; syncs = 0 }' calls
+}
+
+# Begins with no stores.
+fresh() {
+  rm -rf stores
+}
+
+lines() {
+  printf '%s\n' "$@"
+}
+
+if ! command -v strace >/dev/null; then
+  echo "strace is not installed: skipped"
+  echo "0 passed, 0 failed"
+  exit 0
+fi
+folder=$(mktemp -d)
+trap 'rm -rf "$folder"' EXIT
+cd "$folder" || exit 1
+if ! strace -o calls true 2>/dev/null; then
+  echo "strace may not trace here: skipped"
+  echo "0 passed, 0 failed"
+  exit 0
+fi
+# The launcher builds the program where it has to.
+"$program" run </dev/null || exit 1
+
+fresh
+trace "" "open A" "A set a 1" "A set b 2"
+check "two sets" "$(lines 'opened 0' 'ok 1' 'ok 2' 'status 0')" "$(cat out)"
+check "two syncs a set, and each reply before the next line's calls" "$(lines 2 2)" "$(syncs_by_reply | tail -n +2)"
+opening=$(syncs_by_reply | head -n 1)
+
+fresh
+trace_failing $((opening + 1)) "open A" "A set a 1"
+check "the sync of the entry fails" "$(lines 'opened 0' 'refused 22 DiskFault' 'status 6')" "$(cat out)"
+run "open A" "A get a"
+check "a new process after it" "$(lines 'opened 0' none 'status 0')" "$(cat out)"
+
+fresh
+trace_failing $((opening + 2)) "open A" "A set a 1"
+check "the sync of the gate fails" "$(lines 'opened 0' 'refused 22 DiskFault' 'status 6')" "$(cat out)"
+run "open A" "A get a"
+check "a new process after it" "$(lines 'opened 1' 'value 1' 'status 0')" "$(cat out)"
+
+fresh
+trace_failing $((opening + 2)) "open A" "A set a 1" "open A" "A get a"
+check "the same process goes on" "$(lines 'opened 0' 'refused 22 DiskFault' 'opened 1' 'value 1' 'status 6')" "$(cat out)"
+check "a new file stands in place of the one whose sync failed" 1 "$(grep -c '^rename(.*, "stores/A/3.log") *= 0' calls)"
+check "nothing else is left in the folder" 3.log "$(ls -A stores/A)"
+
+echo "$passed passed, $failed failed"
+[ "$failed" = 0 ]

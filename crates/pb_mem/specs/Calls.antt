@@ -1,10 +1,12 @@
 -- The calls of a memory device: how many were made, and which of them fail.
-use Rattle.std.specs.Prelude.{◌≡◌, ℕ, ◌+◌, ◌-◌, ◌^◌, ◌<◌, ◌⊎◌, ◌==◌, min, List, if◌then◌else◌, IsTrue, Bool, Result, IsErr}
+use Rattle.std.specs.Prelude.{◌≡◌, ℕ, ◌+◌, ◌-◌, ◌^◌, ◌<◌, ◌⊎◌, ◌↔◌, ◌==◌, min, List, if◌then◌else◌, IsTrue, Bool, Result, Err, IsErr}
 use Rattle.std.specs.Prelude.{refl}
 use Rattle.std.specs.Coded.{Coded, code_by, coded×, coded_list, coded_ℕ}
 use Rattle.std.specs.List.{list_any}
 use Rattle.pb_devices.specs.Counts.{one_more, Rose}
 use Rattle.pb_devices.specs.declared.fault.Failed.{Failed}
+use Rattle.pb_devices.specs.declared.fault.ListError.{ListError}
+use Rattle.pb_devices.specs.declared.fault.ListError.TheVariants as list_error
 
 pub record CallCounts : Type 0 where
   -- the numbers of the calls that are to fail, counted from 1
@@ -48,6 +50,11 @@ pub record FailsExactly {T : Type 0} (before now : CallCounts) (result : Result 
   pub only : IsErr result → IsListed before ⊎ Rose before.wants now.wants
   pub listed : IsListed before → IsErr result
   pub wanted : before.wants < now.wants → IsErr result
+
+-- a list is counted, also where there is no memory for the names, and fails exactly where its number is listed
+pub record ListsExactly {T : Type 0} (before now : CallCounts) (result : Result T ListError) : Type 0 where
+  pub counted : now ≡ with_call before
+  pub failed : (result ≡ Err list_error.Failed) ↔ IsListed before
 
 abbrev pub calls_code : Coded CallCounts
 calls_code = code_by (List ℕ × (ℕ × (ℕ × ℕ))) (coded× (coded_list coded_ℕ) (coded× coded_ℕ (coded× coded_ℕ coded_ℕ)))

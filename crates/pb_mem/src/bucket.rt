@@ -1,10 +1,10 @@
-ghost use Rattle.std.specs.Prelude.{◌≡◌, ℕ, ◌≤◌, ◌⊎◌, true, map, length, string_bytes, Ok, Err, IfOk, IfErr, OnOk, OnErr};
+ghost use Rattle.std.specs.Prelude.{◌≡◌, ℕ, ◌<◌, ◌≤◌, ◌⊎◌, true, map, length, string_bytes, Ok, Err, IfOk, IfErr, OnOk, OnErr};
 ghost use Rattle.std.specs.Option.{option_map};
 ghost use Rattle.std.specs.FinMap.{empty, get, insert, remove};
 ghost use Rattle.pb_devices.specs.Counts.{HasCause, Rose, one_more};
 ghost use Rattle.pb_devices.specs.Objects.{names_with, count_with};
 ghost use Rattle.pb_devices.specs.Reads.{read_into, IsLength, IsFound, Fits};
-ghost use Rattle.pb_mem.specs.Calls.{no_calls, with_list, faults_of, FailsExactly};
+ghost use Rattle.pb_mem.specs.Calls.{no_calls, with_call, with_list, faults_of, FailsExactly, ListsExactly};
 ghost use Rattle.pb_mem.specs.Bucket.{HappensIfEven};
 ghost use Rattle.pb_mem.specs.Named.{by_name};
 
@@ -139,6 +139,7 @@ impl Bucket for MemBucket {
             (self.new.objects ≡ insert self.old.objects name.now bytes.now) ⊎ (self.new.objects ≡ self.old.objects)) }
         ensures half { OnErr result (HappensIfEven self.old self.new (insert self.old.objects name.now bytes.now)) }
         ensures exactly { FailsExactly self.old.calls self.new.calls result }
+        ensures wanted { self.old.calls.wants < self.new.calls.wants → self.new.objects ≡ self.old.objects }
         ensures calls { self.new.calls.made ≡ one_more self.old.calls.made }
         ensures cause { HasCause (faults_of self.old.calls) (faults_of self.new.calls) result }
     {
@@ -159,6 +160,7 @@ impl Bucket for MemBucket {
         ensures bytes { OnOk result (into.new ≡ read_into (get self.old.objects name.now) at into.old) }
         ensures kept { self.new.objects ≡ self.old.objects }
         ensures exactly { FailsExactly self.old.calls self.new.calls result }
+        ensures same { self.new ≡ record self.old { calls = with_call self.old.calls } }
         ensures calls { self.new.calls.made ≡ one_more self.old.calls.made }
         ensures cause { HasCause (faults_of self.old.calls) (faults_of self.new.calls) result }
     {
@@ -173,6 +175,7 @@ impl Bucket for MemBucket {
         ensures ok { IfOk result (λ found. IsLength found (get self.old.objects name.now)) }
         ensures kept { self.new.objects ≡ self.old.objects }
         ensures exactly { FailsExactly self.old.calls self.new.calls result }
+        ensures same { self.new ≡ record self.old { calls = with_call self.old.calls } }
         ensures calls { self.new.calls.made ≡ one_more self.old.calls.made }
         ensures cause { HasCause (faults_of self.old.calls) (faults_of self.new.calls) result }
     {
@@ -187,6 +190,7 @@ impl Bucket for MemBucket {
         ensures ok { IfOk result (λ n. n ≡ count_with prefix.now self.old.objects) }
         ensures kept { self.new.objects ≡ self.old.objects }
         ensures exactly { FailsExactly self.old.calls self.new.calls result }
+        ensures same { self.new ≡ record self.old { calls = with_call self.old.calls } }
         ensures calls { self.new.calls.made ≡ one_more self.old.calls.made }
         ensures cause { HasCause (faults_of self.old.calls) (faults_of self.new.calls) result }
     {
@@ -200,6 +204,8 @@ impl Bucket for MemBucket {
         ensures calls { self.new.calls.made ≡ one_more self.old.calls.made }
         ensures later { faults_of self.old.calls ≤ faults_of self.new.calls }
         ensures failed { result ≡ Err ListError.Failed → Rose (faults_of self.old.calls) (faults_of self.new.calls) }
+        ensures exactly { ListsExactly self.old.calls self.new.calls result }
+        ensures same { self.new ≡ record self.old { calls = with_call self.old.calls } }
     {
         if self.calls.begin().is_err() {
             return Err(ListError::Failed);
@@ -213,6 +219,7 @@ impl Bucket for MemBucket {
             (self.new.objects ≡ remove self.old.objects name.now) ⊎ (self.new.objects ≡ self.old.objects)) }
         ensures half { OnErr result (HappensIfEven self.old self.new (remove self.old.objects name.now)) }
         ensures exactly { FailsExactly self.old.calls self.new.calls result }
+        ensures counts { self.new.calls ≡ with_call self.old.calls }
         ensures calls { self.new.calls.made ≡ one_more self.old.calls.made }
         ensures cause { HasCause (faults_of self.old.calls) (faults_of self.new.calls) result }
     {

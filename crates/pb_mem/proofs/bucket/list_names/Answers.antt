@@ -1,5 +1,4 @@
-use Rattle.std.proofs.Common.{◌≡◌, List, [], ◌++◌, map, filter, string_bytes, refl, sym, ap, ◌∙◌, append-nil}
-use Rattle.std.specs.BTreeMap.{keys}
+use Rattle.std.proofs.Common.{◌≡◌, List, [], ◌++◌, map, filter, string_bytes, sym, ap, ◌∙◌, append-nil}
 use Rattle.std.specs.Map.Iter.{deref}
 use Rattle.std.proofs.lemmas.Map.Iter.{rest_all}
 use Rattle.pb_devices.specs.Objects.{begins_with}

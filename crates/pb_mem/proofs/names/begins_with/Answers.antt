@@ -1,4 +1,3 @@
-use Rattle.std.proofs.Common.{sym}
 use Rattle.std.proofs.lemmas.Str.Pattern.{starts_text}
 use Rattle.pb_mem.proofs.names.begins_with.Goals as goal
 

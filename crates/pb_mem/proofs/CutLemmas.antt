@@ -1,7 +1,7 @@
 -- What a barrier and a power cut do to the contents of a disk in memory.
-use Rattle.std.proofs.Common.{◌≡◌, ℕ, ◌⊎◌, inl, inr, Bool, true, false, List, [], ◌∷◌, length, Option, Some, None, IsSomeAnd, IfSome, option_map, refl, sym, ap, subst, ◌∙◌, arith, if◌then◌else◌}
+use Rattle.std.proofs.Common.{◌≡◌, ℕ, ◌⊎◌, inl, inr, Bool, true, false, List, [], ◌∷◌, Option, Some, None, IfSome, option_map, refl, sym, ap, subst, ◌∙◌, if◌then◌else◌}
 use Rattle.std.specs.FinMap.{get}
-use Rattle.pb_devices.specs.Contents.{Contents, IsTorn, IsPart, MayLeave, IsSettled, IsImage}
+use Rattle.pb_devices.specs.Contents.{IsTorn, IsSettled}
 use Rattle.pb_devices.specs.DiskCalls.{IsBarred, IsCut}
 use Rattle.pb_devices.proofs.Options.{some_of, of_some}
 use Rattle.pb_mem.specs.Files.{FileView, durable_bytes, IsPending, synced, IsPicked}

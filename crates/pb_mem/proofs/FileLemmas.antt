@@ -1,14 +1,14 @@
 -- What the writes of a file leave of its durable bytes, and which images a power cut may leave.
-use Rattle.std.proofs.Common.{◌≡◌, ℕ, zero, suc, ◌+◌, ◌-◌, ◌*◌, ◌%◌, ◌<◌, ◌≤◌, ◌⊎◌, inl, inr, min, max, List, [], ◌∷◌, ◌++◌, length, take, drop, get_or, refl, sym, ap, subst, ◌∙◌, if◌then◌else◌, ◌==◌, Bool, true, false, arith, length-append, length-drop}
+use Rattle.std.proofs.Common.{◌≡◌, ℕ, zero, suc, ◌+◌, ◌-◌, ◌<◌, ◌≤◌, ◌⊎◌, inl, inr, min, max, List, [], ◌∷◌, ◌++◌, length, take, drop, get_or, refl, sym, ap, subst, ◌∙◌, if◌then◌else◌, ◌==◌, Bool, true, false, arith, length-append, length-drop}
 use Rattle.std.proofs.lemmas.Bool.{cases_lt}
 use Rattle.std.proofs.lemmas.Bool.Decides.{nat_tests}
 use Rattle.std.proofs.Math.Seq.{take-length}
-use Rattle.std.proofs.lemmas.List.{take_more, length-take, get_or-take, get_or-drop, get_or_append_left, get_or-append_right}
+use Rattle.std.proofs.lemmas.List.{take_more, length-take, get_or-take, get_or-drop}
 use Rattle.std.proofs.lemmas.Grind.{same_number_lists, common_steps}
 use Rattle.pb_devices.specs.Contents.{IsTorn}
 use Rattle.pb_devices.specs.DiskCalls.{over}
-use Rattle.pb_mem.specs.Seen.{length-put_back, put_back-outside, side, torn_before, length-durable, durable-kept, seen-torn}
-use Rattle.pb_mem.specs.Files.{Saved, FileView, put_back, before_writes, durable_bytes, Covers, IsPending, with_saved, replaced, touched, written, scribbled, synced, pattern, pattern_len, IsPatterned, IsPicked, IsFilled, IsPatternedOver, pattern_byte}
+use Rattle.pb_mem.specs.Seen.{length-put_back, put_back-outside, side, length-durable, durable-kept, seen-torn}
+use Rattle.pb_mem.specs.Files.{Saved, FileView, put_back, before_writes, durable_bytes, Covers, IsPending, with_saved, replaced, touched, written, synced, pattern, pattern_len, IsPatterned, IsPicked, IsFilled, IsPatternedOver, pattern_byte}
 
 -- within, those that are put back stand
 put_back-inside : (s : Saved) (bs : List ℕ) (k : ℕ) → k < length bs → s.at ≤ k → k < s.at + length s.bytes → get_or (put_back s bs) k 0 ≡ get_or s.bytes (k - s.at) 0

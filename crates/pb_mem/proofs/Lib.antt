@@ -3,3 +3,4 @@ pub mod FileLemmas
 pub mod SlotLemmas
 pub mod CutLemmas
 pub mod FolderLemmas
+pub mod LeftLemmas

@@ -1,18 +1,16 @@
 -- What the calls of a disk in memory do to its contents, name by name.
-use Rattle.std.proofs.Common.{◌≡◌, ℕ, ◌+◌, ◌<◌, ◌≤◌, ◌⊎◌, inl, inr, max, Bool, true, false, cond, List, [], ◌∷◌, ◌++◌, length, take, drop, get_or, Option, Some, None, IsSome, IsSomeAnd, option_map, refl, sym, ap, subst, ◌∙◌, arith, if◌then◌else◌, ◌==◌}
+use Rattle.std.proofs.Common.{◌≡◌, ℕ, ◌+◌, ◌<◌, ◌≤◌, ◌⊎◌, inl, inr, Bool, true, false, List, [], ◌∷◌, ◌++◌, length, Option, Some, None, IsSome, IsSomeAnd, option_map, refl, sym, ap, subst, ◌∙◌, arith, if◌then◌else◌, ◌==◌}
 use Rattle.std.specs.Ordering.{nat_cmp, eq_by_cmp, is_eq}
 use Rattle.std.specs.Cmp.{tied_itself}
 use Rattle.std.specs.declared.cmp.Ordering.{Ordering}
 use Rattle.std.specs.declared.cmp.Ordering.TheVariants.{Less, Equal, Greater}
 use Rattle.std.specs.Cmp.Lexicographic.{slice_cmp, nat_list_cmp_total}
-use Rattle.std.specs.FinMap.{FinMap, get, get_tied, nat_cmp-IsAntisymmetric, slice_cmp-IsAntisymmetric}
-use Rattle.pb_devices.specs.Contents.{Contents, IsTorn, IsPart, MayLeave, IsSettled}
-use Rattle.pb_devices.specs.DiskCalls.{StaysAt, Stays, OthersStay, IsCreated, IsWritten, IsOver, IsScribble, IsScribbled, IsSynced, IsBarred, IsRemoved, IsCut, over}
+use Rattle.std.specs.FinMap.{get, nat_cmp-IsAntisymmetric, slice_cmp-IsAntisymmetric}
+use Rattle.pb_devices.specs.DiskCalls.{StaysAt, Stays, OthersStay, IsCreated, IsWritten, IsOver, IsScribble, IsScribbled, IsSynced, IsRemoved, over}
 use Rattle.pb_devices.specs.Reads.{IsWithin}
-use Rattle.pb_devices.proofs.Options.{some_of, of_some}
-use Rattle.pb_mem.specs.Files.{FileView, durable_bytes, IsPending, synced, empty_file, touched, written, scribbled, pattern, IsPicked}
-use Rattle.pb_mem.specs.Slots.{SlotView, Slots, file_of, earlier_of, seen_of, durable_of, IsPendingOf, IsImageOf, IsImageOfAny, contents_in, happens, survivor, first_or, IsPickedOf, ChangesAt, with_file, created, removed, AreSettled, ArePicked}
-use Rattle.pb_mem.proofs.FileLemmas.{length-over, over-outside, picked-torn, durable-synced, synced-whole, pending-touched, pending-written, length-pattern}
+use Rattle.pb_mem.specs.Files.{FileView, IsPending, synced, empty_file, touched, written, scribbled, pattern}
+use Rattle.pb_mem.specs.Slots.{SlotView, Slots, file_of, earlier_of, seen_of, durable_of, IsPendingOf, IsImageOf, IsImageOfAny, contents_in, ChangesAt, with_file, created, removed}
+use Rattle.pb_mem.proofs.FileLemmas.{length-over, over-outside, durable-synced, synced-whole, pending-touched, pending-written, length-pattern}
 
 -- what is held of a name depends on its slot alone
 pub stays_at : (old new : Slots) (name : List ℕ) → get new name ≡ get old name → StaysAt (contents_in old) (contents_in new) name

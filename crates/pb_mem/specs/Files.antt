@@ -1,5 +1,5 @@
 -- A file in memory: its bytes as reads give them, and what its writes since the last sync have replaced.
-use Rattle.std.specs.Prelude.{◌≡◌, ℕ, zero, suc, ◌+◌, ◌-◌, ◌*◌, ◌%◌, ◌<◌, ◌≤◌, ◌⊎◌, ◌==◌, ◌++◌, min, if◌then◌else◌, List, [], ◌∷◌, length, take, drop, slice_index, Option, Some, None, refl}
+use Rattle.std.specs.Prelude.{◌≡◌, ℕ, zero, suc, ◌+◌, ◌-◌, ◌*◌, ◌%◌, ◌<◌, ◌≤◌, ◌⊎◌, ◌==◌, ◌++◌, min, if◌then◌else◌, List, [], ◌∷◌, length, take, drop, slice_index, refl}
 use Rattle.std.specs.Coded.{Coded, code_by, coded×, coded_list, coded_ℕ}
 use Rattle.pb_devices.specs.DiskCalls.{over}
 
@@ -89,6 +89,12 @@ written file at bytes = record (touched file at (length bytes)) { seen = over fi
 abbrev pub pattern : ℕ → ℕ → ℕ → List ℕ
 pattern pick at zero = []
 pattern pick at (suc n) = pattern_byte pick at ∷ pattern pick (at + 1) n
+
+-- what reads give after a write that failed: what they gave before, the whole write, or the bytes of the pick in its range
+abbrev pub scribble : ℕ → List ℕ → ℕ → List ℕ → List ℕ
+scribble pick before at bytes =
+    if pick == 0 then before else
+    if pick == 1 then over before at bytes else over before at (pattern pick at (length bytes))
 
 -- the file after a write that failed
 abbrev pub scribbled : ℕ → FileView → ℕ → List ℕ → FileView

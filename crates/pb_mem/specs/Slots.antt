@@ -1,5 +1,5 @@
 -- What stands under the names of a folder in memory, and what stood there since the last barrier.
-use Rattle.std.specs.Prelude.{◌≡◌, ℕ, ◌⊎◌, ◌%◌, ◌==◌, ◌||◌, ◌&&◌, nat_lt, if◌then◌else◌, IsSomeAnd, ◌++◌, Bool, true, false, List, [], ◌∷◌, Option, Some, None, option_map, refl}
+use Rattle.std.specs.Prelude.{◌≡◌, ℕ, ◌⊎◌, ◌%◌, ◌==◌, ◌||◌, ◌&&◌, nat_lt, if◌then◌else◌, IsSomeAnd, ◌++◌, Bool, List, [], ◌∷◌, Option, Some, None, option_map, is_some, refl}
 use Rattle.std.specs.Ordering.{nat_cmp, eq_by_cmp}
 use Rattle.std.specs.Cmp.Lexicographic.{slice_cmp}
 use Rattle.std.specs.FinMap.{FinMap, get}
@@ -101,6 +101,10 @@ created slot = record { file = Some empty_file; earlier = earlier_of slot ++ fil
 -- no file stands any more
 abbrev pub removed : Option SlotView → SlotView
 removed slot = record { file = None; earlier = earlier_of slot ++ file_of slot ∷ [] }
+
+-- the slot of a name after a removal, which changes nothing where no file stands
+abbrev pub after_removal : Option SlotView → Option SlotView
+after_removal slot = if is_some (file_of slot) then Some (removed slot) else slot
 
 -- what stands is durable, and nothing else is possible
 pub record AreSettled (old new : Slots) : Type 0 where

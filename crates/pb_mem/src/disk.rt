@@ -1,12 +1,13 @@
-ghost use Rattle.std.specs.Prelude.{◌≡◌, ℕ, ◌≤◌, ◌⊎◌, true, List, length, map, string_bytes, Some, None, Err, IfOk, OnOk, OnErr, IsErr};
+ghost use Rattle.std.specs.Prelude.{◌≡◌, ℕ, ◌<◌, ◌≤◌, ◌⊎◌, true, List, length, map, string_bytes, Some, None, Err, IfOk, OnOk, OnErr, IsErr};
 ghost use Rattle.std.specs.FinMap.{empty, get};
 ghost use Rattle.pb_devices.specs.Counts.{HasCause, Rose};
 ghost use Rattle.pb_devices.specs.Contents.{Contents, IsImage, MayLeave};
 ghost use Rattle.pb_devices.specs.DiskCalls.{Stays, IsCreated, IsWritten, IsOver, IsScribbled, IsSynced, IsBarred, IsRemoved, IsCut};
 ghost use Rattle.pb_devices.specs.Reads.{read_into, read_len, IsLength, IsWithin, AreNames};
-ghost use Rattle.pb_mem.specs.Calls.{no_calls, with_list, faults_of, FailsExactly};
-ghost use Rattle.pb_mem.specs.Disk.{held};
-ghost use Rattle.pb_mem.specs.Slots.{ArePicked};
+ghost use Rattle.pb_mem.specs.Calls.{no_calls, with_call, with_list, faults_of, FailsExactly, ListsExactly};
+ghost use Rattle.pb_mem.specs.Files.{written, scribbled, synced};
+ghost use Rattle.pb_mem.specs.Disk.{held, LeavesAt, HappensAtPick, ReadsScribbled};
+ghost use Rattle.pb_mem.specs.Slots.{created, after_removal, with_file, ChangesAt, AreSettled, ArePicked};
 ghost use Rattle.pb_mem.specs.Seen.{seen_left};
 
 use crate::calls::Calls;
@@ -99,6 +100,7 @@ impl Disk for MemDisk {
         ensures kept { Stays (held self.old) (held self.new) }
         ensures cause { HasCause (faults_of self.old.calls) (faults_of self.new.calls) result }
         ensures exactly { FailsExactly self.old.calls self.new.calls result }
+        ensures same { self.new ≡ record self.old { calls = with_call self.old.calls } }
     {
         self.calls.begin()?;
         Ok(file_len(&self.slots, file))
@@ -111,6 +113,7 @@ impl Disk for MemDisk {
         ensures kept { Stays (held self.old) (held self.new) }
         ensures cause { HasCause (faults_of self.old.calls) (faults_of self.new.calls) result }
         ensures exactly { FailsExactly self.old.calls self.new.calls result }
+        ensures same { self.new ≡ record self.old { calls = with_call self.old.calls } }
     {
         self.calls.begin()?;
         Ok(read_file(&self.slots, file, at, into))
@@ -121,6 +124,8 @@ impl Disk for MemDisk {
         ensures kept { Stays (held self.old) (held self.new) }
         ensures later { faults_of self.old.calls ≤ faults_of self.new.calls }
         ensures failed { result ≡ Err ListError.Failed → Rose (faults_of self.old.calls) (faults_of self.new.calls) }
+        ensures exactly { ListsExactly self.old.calls self.new.calls result }
+        ensures same { self.new ≡ record self.old { calls = with_call self.old.calls } }
     {
         if self.calls.begin().is_err() {
             return Err(ListError::Failed);
@@ -128,15 +133,20 @@ impl Disk for MemDisk {
         list_files(alloc, &self.slots)
     }
 
+    /// A listed creation, which fails, has happened where the pick lets it; one without memory hasn't.
     fn create(&mut self, file: &str) -> Result<(), Failed>
         requires { (held self.old).seen file.now ≡ None }
         ensures ok { OnOk result (IsCreated (held self.old) (held self.new) file.now) }
         ensures err { OnErr result (IsCreated (held self.old) (held self.new) file.now ⊎ Stays (held self.old) (held self.new)) }
         ensures cause { HasCause (faults_of self.old.calls) (faults_of self.new.calls) result }
         ensures exactly { FailsExactly self.old.calls self.new.calls result }
+        ensures made { OnOk result (ChangesAt self.old.slots self.new.slots file.now (Some (created (get self.old.slots file.now)))) }
+        ensures happened { OnErr result (HappensAtPick self.old self.new file.now (Some (created (get self.old.slots file.now)))) }
+        ensures wanted { self.old.calls.wants < self.new.calls.wants → self.new.slots ≡ self.old.slots }
+        ensures pick { self.new.pick ≡ self.old.pick }
     {
         let begun = self.calls.begin();
-        if begun.is_err() && !happens(self.pick) {
+        if !happens(self.pick) && begun.is_err() {
             return begun;
         }
         if create_file(self.alloc, &mut self.slots, file).is_err() {
@@ -146,6 +156,8 @@ impl Disk for MemDisk {
         begun
     }
 
+    /// After a listed write, which fails, reads give in its range what stood there (pick 0), the bytes (1) or those of the pick.
+    /// One without memory has changed nothing.
     fn write_at(&mut self, file: &str, at: u64, bytes: &[u8]) -> Result<(), Failed>
         requires { IsWithin at ((held self.old).seen file.now) }
         ensures written { IsWritten (held self.old) (held self.new) file.now at (length bytes.now) }
@@ -153,6 +165,14 @@ impl Disk for MemDisk {
         ensures err { OnErr result (IsScribbled (held self.old) (held self.new) file.now at (length bytes.now)) }
         ensures cause { HasCause (faults_of self.old.calls) (faults_of self.new.calls) result }
         ensures exactly { FailsExactly self.old.calls self.new.calls result }
+        ensures over { OnOk result (ChangesAt self.old.slots self.new.slots file.now
+            (with_file (λ f. written f at bytes.now) (get self.old.slots file.now))) }
+        ensures left { OnErr result (LeavesAt self.old self.new file.now
+            (with_file (λ f. scribbled self.old.pick f at bytes.now) (get self.old.slots file.now))) }
+        ensures reads { OnErr result (Rose self.old.calls.wants self.new.calls.wants
+            ⊎ ReadsScribbled self.old self.new file.now at bytes.now) }
+        ensures wanted { self.old.calls.wants < self.new.calls.wants → self.new.slots ≡ self.old.slots }
+        ensures pick { self.new.pick ≡ self.old.pick }
     {
         if self.calls.begin().is_err() {
             if scribble_file(
@@ -182,6 +202,10 @@ impl Disk for MemDisk {
         ensures err { OnErr result (Stays (held self.old) (held self.new)) }
         ensures cause { HasCause (faults_of self.old.calls) (faults_of self.new.calls) result }
         ensures exactly { FailsExactly self.old.calls self.new.calls result }
+        ensures durable { OnOk result (ChangesAt self.old.slots self.new.slots file.now (with_file synced (get self.old.slots file.now))) }
+        ensures unsynced { OnErr result (self.new.slots ≡ self.old.slots) }
+        ensures calls { self.new.calls ≡ with_call self.old.calls }
+        ensures pick { self.new.pick ≡ self.old.pick }
     {
         self.calls.begin()?;
         sync_file(&mut self.slots, file);
@@ -193,20 +217,32 @@ impl Disk for MemDisk {
         ensures err { OnErr result (Stays (held self.old) (held self.new)) }
         ensures cause { HasCause (faults_of self.old.calls) (faults_of self.new.calls) result }
         ensures exactly { FailsExactly self.old.calls self.new.calls result }
+        ensures durable { OnOk result (AreSettled self.old.slots self.new.slots) }
+        ensures unsettled { OnErr result (self.new.slots ≡ self.old.slots) }
+        ensures calls { self.new.calls ≡ with_call self.old.calls }
+        ensures pick { self.new.pick ≡ self.old.pick }
     {
         self.calls.begin()?;
         settle_all(&mut self.slots);
         Ok(())
     }
 
+    /// A listed removal, which fails, has happened where the pick lets it; one without memory hasn't.
     fn remove(&mut self, file: &str) -> Result<(), Failed>
         ensures ok { OnOk result (IsRemoved (held self.old) (held self.new) file.now) }
         ensures err { OnErr result (IsRemoved (held self.old) (held self.new) file.now ⊎ Stays (held self.old) (held self.new)) }
         ensures cause { HasCause (faults_of self.old.calls) (faults_of self.new.calls) result }
         ensures exactly { FailsExactly self.old.calls self.new.calls result }
+        ensures gone { OnOk result (ChangesAt self.old.slots self.new.slots file.now (after_removal (get self.old.slots file.now))) }
+        ensures happened { OnErr result (HappensAtPick self.old self.new file.now (after_removal (get self.old.slots file.now))) }
+        ensures wanted { self.old.calls.wants < self.new.calls.wants → self.new.slots ≡ self.old.slots }
+        ensures pick { self.new.pick ≡ self.old.pick }
     {
         let begun = self.calls.begin();
-        if file_at(&self.slots, file).is_none() || begun.is_err() && !happens(self.pick) {
+        if file_at(&self.slots, file).is_none() {
+            return begun;
+        }
+        if begun.is_err() && !happens(self.pick) {
             return begun;
         }
         if remove_file(&mut self.slots, file).is_err() {
@@ -222,6 +258,7 @@ impl Disk for MemDisk {
         ensures picked { ArePicked self.old.pick self.old.slots self.new.slots }
         ensures faults { faults_of self.old.calls ≤ faults_of self.new.calls }
         ensures calls { self.new.calls ≡ self.old.calls }
+        ensures pick { self.new.pick ≡ self.old.pick }
     {
         cut_all(&mut self.slots, self.pick);
     }

@@ -1,4 +1,4 @@
-use Rattle.std.proofs.Common.{◌≡◌, ◌+◌, inl, inr, get_or, sym, subst, arith}
+use Rattle.std.proofs.Common.{◌≡◌, inl, inr, get_or, sym, subst, arith}
 use Rattle.pb_mem.specs.Files.{Saved}
 use Rattle.pb_mem.proofs.FileLemmas.{filled_more}
 use Rattle.pb_mem.proofs.file.fill_saved.Goals as goal

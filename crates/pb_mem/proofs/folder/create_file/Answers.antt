@@ -1,4 +1,4 @@
-use Rattle.std.proofs.Common.{◌≡◌, Option, Some, None, false, is_some, sym, ap, subst, ◌∙◌, rules, arith}
+use Rattle.std.proofs.Common.{◌≡◌, Option, Some, false, is_some, sym, ap, subst, ◌∙◌, rules, arith}
 use Rattle.std.specs.BTreeMap as tree
 use Rattle.pb_mem.specs.Named.{by_name}
 use Rattle.pb_mem.specs.Slots.{SlotView, created, ChangesAt}

@@ -1,4 +1,4 @@
-use Rattle.std.proofs.Common.{◌≡◌, ℕ, List, Option, Some, None, string_bytes, sym, ap, subst, ◌∙◌}
+use Rattle.std.proofs.Common.{◌≡◌, ℕ, List, Some, None, string_bytes, ap, subst, ◌∙◌}
 use Rattle.pb_mem.specs.Named.{by_name}
 use Rattle.pb_mem.specs.Slots.{SlotView, created, ChangesAt}
 use Rattle.pb_mem.proofs.NamedLemmas.{get-updated}

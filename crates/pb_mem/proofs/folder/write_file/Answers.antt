@@ -1,4 +1,4 @@
-use Rattle.std.proofs.Common.{◌≡◌, Option, Some, None, sym, ap, subst, ◌∙◌, refl, rules}
+use Rattle.std.proofs.Common.{Option, Some, sym, ap, subst, ◌∙◌, rules}
 use Rattle.pb_devices.specs.Reads.{IsWithin}
 use Rattle.pb_mem.specs.Files.{written}
 use Rattle.pb_mem.specs.Slots.{SlotView, file_of, seen_of, durable_of, with_file}

@@ -1,7 +1,4 @@
-use Rattle.std.proofs.Common.{◌≡◌, true, false, inl, inr, is_err, IsSome, rules, arith}
 use Rattle.pb_mem.specs.Named.{by_name}
-use Rattle.pb_mem.specs.Slots.{file_of}
-use Rattle.std.specs.FinMap.{get}
 use Rattle.pb_mem.proofs.SlotLemmas.{synced_slot}
 use Rattle.pb_mem.proofs.disk.MemDiskDisk.sync.Goals as goal
 

@@ -102,6 +102,43 @@ fn creations_and_removals_without_a_barrier_happen_by_the_pick(
 }
 
 #[test]
+fn a_creation_or_removal_that_fails_happens_by_the_pick(rt: HostRuntime) -> Result<(), Fail> {
+    let alloc = rt.alloc();
+    for (pick, happens) in [(0, false), (1, true), (2, true), (3, false)] {
+        let mut disk = MemDisk::new(alloc, [4, 5].to_vec(alloc)?, pick);
+        make(&mut disk, "old")?;
+        assert_eq!(rt; make(&mut disk, "new"), Err(Failed), "call 4, pick {pick}");
+        assert_eq!(rt; disk.remove("old"), Err(Failed), "call 5, pick {pick}");
+        assert_eq!(rt; disk.len("new")?.is_some(), happens, "pick {pick}");
+        assert_eq!(rt; disk.len("old")?.is_none(), happens, "pick {pick}");
+        disk.barrier()?;
+        disk.power();
+        assert_eq!(rt; disk.len("new")?.is_some(), happens, "pick {pick}");
+        assert_eq!(rt; disk.len("old")?.is_none(), happens, "pick {pick}");
+        assert_eq!(rt; disk.faults(), 2, "pick {pick}");
+        assert_eq!(rt; disk.wants(), 0, "pick {pick}");
+    }
+    Ok(())
+}
+
+#[test]
+fn a_list_fails_at_its_number(rt: HostRuntime) -> Result<(), Fail> {
+    let alloc = rt.alloc();
+    let mut disk = MemDisk::new(alloc, [2].to_vec(alloc)?, 0);
+    assert!(rt;
+        disk.list(alloc).is_ok_and(|names| names.is_empty()),
+        "call 1"
+    );
+    assert!(rt;
+        disk.list(alloc).is_err_and(|e| e == ListError::Failed),
+        "call 2"
+    );
+    assert_eq!(rt; disk.calls(), 2);
+    assert_eq!(rt; disk.faults(), 1);
+    Ok(())
+}
+
+#[test]
 fn a_failed_write_leaves_what_the_pick_says(rt: HostRuntime) -> Result<(), Fail> {
     let alloc = rt.alloc();
     let seen: [&[u8]; 4] = [

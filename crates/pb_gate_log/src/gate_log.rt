@@ -142,6 +142,7 @@ impl GateLog {
             return Err(AppendError::TooLarge);
         }
         let name = self.file.as_str();
+        // The next gate stands shut on the disk before this one is opened: behind an open gate, old bytes would count.
         write_entry(disk, name, self.gate, payload)?;
         write_synced(disk, name, self.gate, &[1])?;
         self.gate += 5 + len as u64;

@@ -11,3 +11,4 @@ pub mod Counting
 pub mod Progress
 pub mod Crash
 pub mod Early
+pub mod Damage

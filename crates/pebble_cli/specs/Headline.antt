@@ -1,9 +1,9 @@
 -- No stop and no fault loses an accepted command: the history of a store, against the images of its folder.
-use Rattle.std.specs.Prelude.{◌≡◌, ◌≢◌, ℕ, ◌+◌, MatchBool, ◌⊎◌, List, [], ◌∷◌, IsSomeAnd}
+use Rattle.std.specs.Prelude.{◌≡◌, ◌≢◌, ℕ, ◌+◌, MatchBool, ◌⊎◌, List, [], ◌∷◌, Option, IsSomeAnd}
 use Rattle.std.specs.FinMap.{insert}
-use Rattle.pb_devices.specs.Contents.{Contents, Folder, IsImage}
+use Rattle.pb_devices.specs.Contents.{Contents, Folder, IsImage, MayLeave}
 use Rattle.pebble_cli.specs.Store.{Map}
-use Rattle.pebble_cli.specs.Folder.{StandsFor}
+use Rattle.pebble_cli.specs.Folder.{log_name, payloads_in, Make, StandsFor}
 use Rattle.pebble_cli.specs.Machine.{State, Ran, closed, state_after, states_after}
 use Rattle.pebble_cli.specs.declared.line.Line.{Line}
 use Rattle.pebble_cli.specs.declared.line.Line.TheVariants.{Open, Set, Get}
@@ -15,6 +15,10 @@ IsGood disk = (folder : Folder) → IsImage disk folder → (n : ℕ) × (m : Ma
 -- some image of the folder stands for this count and map
 abbrev pub MayStandFor : Contents → ℕ → Map → Type 0
 MayStandFor disk n m = (folder : Folder) × IsImage disk folder × StandsFor folder n m
+
+-- some image of the log stands for no count and map
+abbrev pub IsSpoilt : Contents → Type 0
+IsSpoilt disk = (image : Option (List ℕ)) × MayLeave disk log_name image × ((n : ℕ) (m : Map) → Make (payloads_in image) n m → ⊥)
 
 -- the accepted commands made this count and map
 abbrev pub IsAccepted : State → ℕ → Map → Type 0

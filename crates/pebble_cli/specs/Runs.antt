@@ -86,12 +86,16 @@ IsStatusOf too_long status = (status ≡ TooLong) ⊎ (status ≡ Read) ⊎ (sta
 IsStatusOf (fault number) status = (status ≡ Script) ⊎ (status ≡ Read) ⊎ (status ≡ Memory)
 IsStatusOf (script lines) status = IsWhole status ⊎ IsCutShort status ⊎ (status ≡ Read)
 
+-- some line found damage
+abbrev pub has_damage : List Mark → Bool
+has_damage marks = list_any (λ mark. mark.refusal == 20) marks
+
 -- the status of a run whose every line ran, where no write failed
 abbrev pub status_of : List Mark → Status
 status_of marks =
     if list_any (λ mark. mark.refusal == 24) marks then Memory
     else if list_any (λ mark. mark.refusal == 22) marks then Device
-    else if list_any (λ mark. mark.refusal == 20) marks then Damaged
+    else if has_damage marks then Damaged
     else if list_any (λ mark. not (mark.refusal == 0)) marks then Refused
     else Done
 

@@ -3,10 +3,10 @@ ghost use Rattle.pb_devices.specs.Contents.{MayLeave};
 ghost use Rattle.pb_devices.specs.Counts.{Rose};
 ghost use Rattle.pebble_cli.specs.Lines.{first_fault};
 ghost use Rattle.pebble_cli.specs.Folder.{log_name, payloads_in, HasFrom};
-ghost use Rattle.pebble_cli.specs.Headline.{Headline, IsGood};
+ghost use Rattle.pebble_cli.specs.Headline.{Headline, IsGood, IsSpoilt};
 ghost use Rattle.pebble_cli.specs.Machine.{State, mark_of, reply_to, state_after};
 ghost use Rattle.pebble_cli.specs.StoreStates.{IsIn, Keeps, Finds, IsSetBy, is_down, map_in, ran_of};
-ghost use Rattle.pebble_cli.specs.Runs.{script as script_task, fault, usage, task_of, task_of_source, task_of_script, lines_due, is_run, IsReadWhole, IsWhole, IsCutShort, IsBeforeLines, Ends, Prints, Causes, Comes};
+ghost use Rattle.pebble_cli.specs.Runs.{script as script_task, fault, usage, task_of, task_of_source, task_of_script, lines_due, is_run, has_damage, IsReadWhole, IsWhole, IsCutShort, IsBeforeLines, Ends, Prints, Causes, Comes};
 
 use crate::line::Line;
 use crate::print::{fault_text, print_reply, say};
@@ -56,6 +56,11 @@ pub fn run<I: Source, O: Sink, D: Disk, B: Bucket>(
     ensures device { (a b : D) (others : List D) → disks.old ≡ a ∷ others → disks.new ≡ b ∷ others
         → result ≡ Status.Device → Rose (D.fault_count a) (D.fault_count b) }
 
+    // Damage, and with it the status `Damaged`, comes of a log that stood for no count and map when the run began: no
+    // stop and no fault of this run makes it.
+    ensures damaged { D.told ≡ true → (a : D) (others : List D) → disks.old ≡ a ∷ others
+        → has_damage trace.new.marks ≡ true → IsSpoilt (D.contents a) }
+
     ensures read { result ≡ Status.Read → Rose (I.fault_count script.old) (I.fault_count script.new) }
     ensures whole { I.told ≡ true → IsReadWhole result → I.left script.new ≡ [] }
     ensures later { I.fault_count script.old ≤ I.fault_count script.new }
@@ -88,6 +93,7 @@ fn run_source<I: Source, O: Sink, D: Disk>(
     ensures usage { result ≢ Status.Usage }
     ensures causes { Causes result trace.new.marks (O.fault_count out.old) (O.fault_count out.new) }
     ensures device { result ≡ Status.Device → Rose (D.fault_count disk.old) (D.fault_count disk.new) }
+    ensures damaged { D.told ≡ true → has_damage trace.new.marks ≡ true → IsSpoilt (D.contents disk.old) }
     ensures read { result ≡ Status.Read → Rose (I.fault_count source.old) (I.fault_count source.new) }
     ensures whole { I.told ≡ true → IsReadWhole result → I.left source.new ≡ [] }
     ensures later { I.fault_count source.old ≤ I.fault_count source.new }
@@ -118,6 +124,7 @@ fn run_script<O: Sink, D: Disk>(
     ensures usage { (result ≢ Status.Usage) × (result ≢ Status.Read) × (result ≢ Status.TooLong) }
     ensures causes { Causes result trace.new.marks (O.fault_count out.old) (O.fault_count out.new) }
     ensures device { result ≡ Status.Device → Rose (D.fault_count disk.old) (D.fault_count disk.new) }
+    ensures damaged { D.told ≡ true → has_damage trace.new.marks ≡ true → IsSpoilt (D.contents disk.old) }
     ensures untouched { IsBeforeLines result → disk.new ≡ disk.old }
 {
     match parse(alloc, script) {
@@ -158,6 +165,7 @@ fn run_lines<O: Sink, D: Disk>(
     ensures status { IsWhole result ⊎ IsCutShort result }
     ensures causes { Causes result trace.new.marks (O.fault_count out.old) (O.fault_count out.new) }
     ensures device { result ≡ Status.Device → Rose (D.fault_count disk.old) (D.fault_count disk.new) }
+    ensures damaged { D.told ≡ true → has_damage trace.new.marks ≡ true → IsSpoilt (D.contents disk.old) }
 {
     if trace.reserve(lines.len() as u64).is_err() {
         return Status::Memory;

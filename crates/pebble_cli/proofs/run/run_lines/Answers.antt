@@ -5,11 +5,12 @@ use Rattle.pebble_cli.proofs.Counting.{rose_later, rose_from}
 use Rattle.pebble_cli.specs.Folder.{log_name}
 use Rattle.pebble_cli.specs.Machine.{closed}
 use Rattle.pebble_cli.specs.Replies.{printed}
-use Rattle.pebble_cli.specs.Runs.{TakesPart, status_of}
-use Rattle.pebble_cli.specs.StoreStates.{is_down}
+use Rattle.pebble_cli.specs.Runs.{TakesPart, has_damage, status_of}
+use Rattle.pebble_cli.specs.StoreStates.{is_down, map_in, ran_of}
 use Rattle.pebble_cli.specs.declared.line.Line.{Line}
 use Rattle.pebble_cli.specs.declared.status.Status.TheVariants.{Memory}
 use Rattle.pebble_cli.proofs.Crash.{Safe, safe_start, safe_step, safe_headline, nothing_ran}
+use Rattle.pebble_cli.proofs.Damage.{from_start, from_step, spoilt_step, no_damage_yet}
 use Rattle.pebble_cli.proofs.Progress.{texts, texts_ran, going_start, going_step, reaches_start, part_step, no_part, cut_ends, cut_prints, all_ends, all_prints}
 use Rattle.pebble_cli.proofs.run.run_lines.Goals as goal
 
@@ -34,6 +35,8 @@ loop-line-init g c =
           safe = λ told good.
               subst (λ (rest : List Line). Safe entry entry lines rest [] closed) (sym gives.0)
               (safe_start entry lines (λ name. g.met.D.Disk.seen_may_be_left c.args.disk.now name told) good);
+          from = λ told. from_start entry;
+          spoilt = λ told damage. absurd (no_damage_yet c.reserve.new.self.marks none damage);
           disk_later = omega arith;
           device = λ is. cc;
         },
@@ -72,6 +75,11 @@ loop-line-preserved-in_default g c =
               safe_step (g.D.Disk.contents c.args.disk.now) (g.D.Disk.contents c.loop-line.disk) (g.D.Disk.contents c.run_line-reply.new.disk) lines left rest going.ran going.state before after c.in-Some.line reply
               (kept.safe told good) steps going.is_in (e.reply going.state going.is_in) (e.state going.state going.is_in) (e.kept told)
               (g.met.D.Disk.seen_may_be_left c.loop-line.disk log_name told) (e.found told) (e.crash told);
+          from = λ told image left. from_step (g.D.Disk.contents c.args.disk.now) (g.D.Disk.contents c.loop-line.disk) before c.in-Some.line image (kept.from told) (e.crash told image left);
+          spoilt = λ told damage.
+              spoilt_step (g.D.Disk.contents c.args.disk.now) (g.D.Disk.contents c.loop-line.disk) going.state c.in-Some.line reply c.loop-line.trace.marks (ran_of reply after).mark (map_in after)
+              (kept.from told) (g.met.D.Disk.seen_may_be_left c.loop-line.disk log_name told) (e.reply going.state going.is_in) refl (e.found told) (kept.spoilt told)
+              (ap has_damage (sym e.marks) ∙ damage);
           disk_later = omega (arith, kept.disk_later, e.later);
           device = λ is. elim (c.with-status.ensures.device is) [
             | inl was ↦ rose_later _ _ _ (kept.device was) e.later
@@ -113,6 +121,11 @@ loop-line-preserved g c =
               safe_step (g.D.Disk.contents c.args.disk.now) (g.D.Disk.contents c.loop-line.disk) (g.D.Disk.contents c.run_line-reply.new.disk) lines left rest going.ran going.state before after c.in-Some.line reply
               (kept.safe told good) steps going.is_in (e.reply going.state going.is_in) (e.state going.state going.is_in) (e.kept told)
               (g.met.D.Disk.seen_may_be_left c.loop-line.disk log_name told) (e.found told) (e.crash told);
+          from = λ told image left. from_step (g.D.Disk.contents c.args.disk.now) (g.D.Disk.contents c.loop-line.disk) before c.in-Some.line image (kept.from told) (e.crash told image left);
+          spoilt = λ told damage.
+              spoilt_step (g.D.Disk.contents c.args.disk.now) (g.D.Disk.contents c.loop-line.disk) going.state c.in-Some.line reply c.loop-line.trace.marks (ran_of reply after).mark (map_in after)
+              (kept.from told) (g.met.D.Disk.seen_may_be_left c.loop-line.disk log_name told) (e.reply going.state going.is_in) refl (e.found told) (kept.spoilt told)
+              (ap has_damage (sym e.marks) ∙ damage);
           disk_later = omega (arith, kept.disk_later, e.later);
           device = λ is. elim (c.with-status.ensures.device is) [
             | inl was ↦ rose_later _ _ _ (kept.device was) e.later
@@ -166,6 +179,17 @@ returns-in-Err-clause-comes g c =
           (kept.safe told good) steps going.is_in (e.reply going.state going.is_in) (e.state going.state going.is_in) (e.kept told)
           (g.met.D.Disk.seen_may_be_left c.loop-line.disk log_name told) (e.found told) (e.crash told));
     }
+
+pub returns-in-Err-clause-damaged : goal.returns-in-Err-clause-damaged
+returns-in-Err-clause-damaged g c told damage =
+    let going = c.loop-line.invariant.2.0 in
+    let kept = c.loop-line.invariant.2.1 in
+    let reply = c.run_line-reply.result in
+    let e = c.run_line-reply.ensures in
+    let after = c.run_line-reply.new.store in
+    spoilt_step (g.D.Disk.contents c.args.disk.now) (g.D.Disk.contents c.loop-line.disk) going.state c.in-Some.line reply c.loop-line.trace.marks (ran_of reply after).mark (map_in after)
+    (kept.from told) (g.met.D.Disk.seen_may_be_left c.loop-line.disk log_name told) (e.reply going.state going.is_in) refl (e.found told) (kept.spoilt told)
+    (ap has_damage (sym e.marks) ∙ damage)
 
 pub returns-clause-comes : goal.returns-clause-comes
 returns-clause-comes g c =

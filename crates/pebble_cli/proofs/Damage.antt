@@ -1,0 +1,120 @@
+-- Where damage comes from: from an image that there was before the first line, since a command never makes it.
+use Rattle.std.proofs.Common.{◌≡◌, ℕ, ◌==◌, ◌⊎◌, Bool, true, false, ◌||◌, if◌then◌else◌, inl, inr, List, [], ◌∷◌, ◌++◌, Option, Some, None, nat_le, ◌+◌, ◌^◌, refl, sym, ap, ◌∙◌, subst, arith}
+use Rattle.std.specs.FinMap.{get, insert}
+use Rattle.std.specs.List.{list_any}
+use Rattle.std.proofs.lemmas.Bool.{cond_both}
+use Rattle.std.proofs.lemmas.Bool.Decides.{nat_tests}
+use Rattle.std.proofs.lemmas.List.Folds.{list_any-append}
+use Rattle.pb_devices.specs.Contents.{Contents, MayLeave}
+use Rattle.pb_devices.specs.declared.trace.Mark.{Mark}
+use Rattle.pebble_cli.specs.Store.{Map}
+use Rattle.pebble_cli.specs.Folder.{log_name, payloads_in, Make, HasFrom}
+use Rattle.pebble_cli.specs.Headline.{IsSpoilt}
+use Rattle.pebble_cli.specs.Machine.{State, reply_to, set_reply, unless_fault, unless_memory, found, refusal_of}
+use Rattle.pebble_cli.specs.Runs.{has_damage}
+use Rattle.pebble_cli.specs.StoreStates.{Finds, IsSetBy}
+use Rattle.pebble_cli.specs.declared.line.Line.{Line}
+use Rattle.pebble_cli.specs.declared.line.Line.TheVariants as line
+use Rattle.pebble_cli.specs.declared.reply.Refusal.TheVariants.{NotOpen, AlreadyOpen, NumbersSpent, Damaged, DiskFault, NoMemory}
+use Rattle.pebble_cli.specs.declared.reply.Reply.{Reply}
+use Rattle.pebble_cli.specs.declared.reply.Reply.TheVariants.{Opened, Accepted, Value, Absent, Refused}
+use Rattle.pebble_cli.specs.declared.store.Store.{Store}
+use Rattle.pebble_cli.specs.declared.store.Store.TheVariants.{Closed, Open, Down}
+
+-- an image of the log has the payloads of one that there was, or it stands for something
+abbrev pub FromOrMade : Contents → Option (List ℕ) → Type 0
+FromOrMade entry image = HasFrom entry image ⊎ ((n : ℕ) × (m : Map) × Make (payloads_in image) n m)
+
+pub from_start : (entry : Contents) (image : Option (List ℕ)) → MayLeave entry log_name image → FromOrMade entry image
+from_start entry image left = inl (image, left, refl)
+
+from_set : (entry : Contents) (before : Store) (line : Line) (image : Option (List ℕ)) → IsSetBy before line image → FromOrMade entry image
+from_set entry (Open held) (line.Set key value) image by = elim by [ inl make ↦ inr (_, _, make) | inr make ↦ inr (_, _, make) ]
+from_set entry (Open held) line.Open image by = absurd by
+from_set entry (Open held) (line.Get key) image by = absurd by
+from_set entry Closed line image by = absurd by
+from_set entry Down line image by = absurd by
+
+-- a line keeps that
+pub from_step : (entry old : Contents) (before : Store) (line : Line) (image : Option (List ℕ)) → ((other : Option (List ℕ)) → MayLeave old log_name other → FromOrMade entry other)
+    → HasFrom old image ⊎ IsSetBy before line image → FromOrMade entry image
+from_step entry old before line image so_far left =
+    elim left [
+      | inl from ↦ elim (so_far from.0 from.1) [
+        | inl earlier ↦ inl (earlier.0, earlier.1, from.2 ∙ earlier.2)
+        | inr made ↦ inr (made.0, made.1, subst (λ (l : List (List ℕ)). Make l made.0 made.1) (sym from.2) made.2)
+      ]
+      | inr by ↦ from_set entry before line image by
+    ]
+
+abbrev IsUnspoilt : Reply → Type 0
+IsUnspoilt reply = refusal_of reply ≡ 20 → ⊥
+
+no_damage : (mark : Mark) (reply : Reply) → IsUnspoilt reply → IsUnspoilt (unless_memory mark reply)
+no_damage mark reply is = cond_both (mark.refusal == 24) (Refused NoMemory) reply IsUnspoilt (λ _ e. omega (arith, e)) (λ _. is)
+
+set_unspoilt : (state : State) (key value : List ℕ) (mark : Mark) → IsUnspoilt (reply_to state (line.Set key value) mark)
+set_unspoilt state key value mark =
+    cond_both state.is_open (set_reply state.count mark) (Refused NotOpen) IsUnspoilt
+    (λ _. cond_both (nat_le (2 ^ 62) (state.count + 1)) (Refused NumbersSpent) (unless_fault mark (Accepted (state.count + 1))) IsUnspoilt
+    (λ _ e. omega (arith, e))
+    (λ _. cond_both (mark.refusal == 22) (Refused DiskFault) (unless_memory mark (Accepted (state.count + 1))) IsUnspoilt
+    (λ _ e. omega (arith, e)) (λ _. no_damage mark (Accepted (state.count + 1)) (λ e. omega (arith, e)))))
+    (λ _ e. omega (arith, e))
+
+found_unspoilt : (value : Option (List ℕ)) → IsUnspoilt (found value)
+found_unspoilt None e = omega (arith, e)
+found_unspoilt (Some value) e = omega (arith, e)
+
+get_unspoilt : (state : State) (key : List ℕ) (mark : Mark) → IsUnspoilt (reply_to state (line.Get key) mark)
+get_unspoilt state key mark =
+    cond_both state.is_open (unless_memory mark (found (get state.map key))) (Refused NotOpen) IsUnspoilt
+    (λ _. no_damage mark (found (get state.map key)) (found_unspoilt (get state.map key)))
+    (λ _ e. omega (arith, e))
+
+-- damage is what an opening finds
+found_damage : (list : List (List ℕ)) (state : State) (line : Line) (reply : Reply) (mark : Mark) (m : Map) → reply ≡ reply_to state line mark → refusal_of reply ≡ 20 → Finds list line reply m
+    → (n : ℕ) (l : Map) → Make list n l → ⊥
+found_damage list state (line.Set key value) reply mark m is damage found = absurd (set_unspoilt state key value mark (ap refusal_of (sym is) ∙ damage))
+found_damage list state (line.Get key) reply mark m is damage found = absurd (get_unspoilt state key mark (ap refusal_of (sym is) ∙ damage))
+found_damage list state line.Open (Refused Damaged) mark m is damage found = found
+found_damage list state line.Open (Refused NotOpen) mark m is damage found = absurd (omega (arith, damage))
+found_damage list state line.Open (Refused AlreadyOpen) mark m is damage found = absurd (omega (arith, damage))
+found_damage list state line.Open (Refused NumbersSpent) mark m is damage found = absurd (omega (arith, damage))
+found_damage list state line.Open (Refused DiskFault) mark m is damage found = absurd (omega (arith, damage))
+found_damage list state line.Open (Refused NoMemory) mark m is damage found = absurd (omega (arith, damage))
+found_damage list state line.Open (Opened n) mark m is damage found = absurd (omega (arith, damage))
+found_damage list state line.Open (Accepted n) mark m is damage found = absurd (omega (arith, damage))
+found_damage list state line.Open (Value v) mark m is damage found = absurd (omega (arith, damage))
+found_damage list state line.Open Absent mark m is damage found = absurd (omega (arith, damage))
+
+of_either : (a b : Bool) → (a || (b || false)) ≡ true → (a ≡ true) ⊎ (b ≡ true)
+of_either true b is = inl refl
+of_either false true is = inr refl
+of_either false false is = cc
+
+damage_last : (marks : List Mark) (mark : Mark) → has_damage (marks ++ mark ∷ []) ≡ true → (has_damage marks ≡ true) ⊎ (mark.refusal ≡ 20)
+damage_last marks mark is =
+    elim (of_either (has_damage marks) (mark.refusal == 20) (sym (list_any-append (λ (m : Mark). m.refusal == 20) marks (mark ∷ [])) ∙ is)) [
+      | inl before ↦ inl before
+      | inr now ↦ inr (grind (arith, nat_tests, now))
+    ]
+
+pub no_damage_yet : (marks : List Mark) → marks ≡ [] → has_damage marks ≡ true → ⊥
+no_damage_yet marks none damage =
+    let early : has_damage [] ≡ true = ap has_damage (sym none) ∙ damage in cc
+
+-- a line that finds damage finds it in an image that there was
+pub spoilt_step : (entry old : Contents) (state : State) (line : Line) (reply : Reply) (marks : List Mark) (mark : Mark) (m : Map) → ((other : Option (List ℕ)) → MayLeave old log_name other → FromOrMade entry other)
+    → MayLeave old log_name (old.seen log_name) → reply ≡ reply_to state line mark → mark.refusal ≡ refusal_of reply → Finds (payloads_in (old.seen log_name)) line reply m
+    → (has_damage marks ≡ true → IsSpoilt entry) → has_damage (marks ++ mark ∷ []) ≡ true → IsSpoilt entry
+spoilt_step entry old state line reply marks mark m so_far seen is same found earlier damage =
+    elim (damage_last marks mark damage) [
+      | inl before ↦ earlier before
+      | inr now ↦
+          let none = found_damage (payloads_in (old.seen log_name)) state line reply mark m is (sym same ∙ now) found in
+          elim (so_far (old.seen log_name) seen) [
+            | inl from ↦ (from.0, from.1, λ n l make. none n l (subst (λ (p : List (List ℕ)). Make p n l) (sym from.2) make))
+            | inr made ↦ absurd (none made.0 made.1 made.2)
+          ]
+    ]

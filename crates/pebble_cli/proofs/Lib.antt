@@ -12,3 +12,4 @@ pub mod Progress
 pub mod Crash
 pub mod Early
 pub mod Damage
+pub mod OneSet

@@ -212,4 +212,6 @@ fn run_line<D: Disk>(
 #[cfg(test)]
 mod fault_tests;
 #[cfg(test)]
+mod headline_tests;
+#[cfg(test)]
 mod tests;

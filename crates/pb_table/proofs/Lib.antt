@@ -1,0 +1,5 @@
+pub mod CountedLemmas
+pub mod ItemLemmas
+pub mod TableLemmas
+pub mod SizeLemmas
+pub mod Examples

@@ -1,0 +1,5 @@
+pub mod Logged
+pub mod Log
+pub mod Catalogued
+pub mod Catalogue
+pub mod Current

@@ -1,0 +1,2 @@
+//! What the payloads of a command log, of a catalogue and of the current pointer say: definitions and laws alone.
+#![tactic(auto)]

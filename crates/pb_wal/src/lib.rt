@@ -1,0 +1,6 @@
+//! Log entries: a changing command with its count, spelled as the payload of a log.
+#![tactic(auto)]
+
+mod entry;
+
+pub use entry::{Change, Entry};

@@ -1,1 +1,5 @@
 pub mod Examples
+pub mod SpellingLaws
+pub mod LoggedLaws
+pub mod CataloguedLaws
+pub mod CurrentLaws

@@ -18,6 +18,11 @@ abbrev pub RiseAbove : ℕ → List LogEntry → Type 0
 RiseAbove count [] = Unit {0}
 RiseAbove count (entry ∷ entries) = (count < entry.count) × RiseAbove entry.count entries
 
+-- the count of the last entry, or this one where there is none
+abbrev pub last_count : ℕ → List LogEntry → ℕ
+last_count count [] = count
+last_count count (entry ∷ entries) = last_count entry.count entries
+
 -- the payloads are these entries, all behind the commands that are in tables
 pub record SaysLog (flushed : ℕ) (payloads : List (List ℕ)) (entries : List LogEntry) : Type 0 where
   pub spelled : payloads ≡ map entry_spelling entries

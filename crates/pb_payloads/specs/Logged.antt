@@ -58,6 +58,7 @@ AreInOrder tables = AllAdjacentBelow (λ one next. one.number < next.number) tab
 
 pub record AreWaiting (tables : List Waiting) : Type 0 where
   pub some : 1 ≤ length tables
+  pub few : length tables < 2 ^ 62
   pub numbers : All (λ table. table.number < 2 ^ 62) tables
   pub sizes : All (λ table. table.size < 2 ^ 62) tables
   pub rise : AreInOrder tables

@@ -1,7 +1,8 @@
-ghost use Rattle.std.specs.Prelude.{◌≡◌, ◌<◌, ◌^◌, ◌++◌, OnOk, OnErr};
-ghost use Rattle.pb_payloads.specs.Log.{IsEntry, entry_spelling};
+ghost use Rattle.std.specs.Prelude.{◌≡◌, ◌<◌, ◌^◌, ◌++◌, OnOk, OnErr, IfOk, IfNone, IfSome};
+ghost use Rattle.pb_payloads.specs.Log.{LogEntry, IsEntry, entry_spelling};
 ghost use Rattle.pb_wal.specs.Changes.{IsShort, entry_of};
 
+use crate::decode::{read_change, read_count};
 use crate::encode::put_entry;
 use pb_keys::{Bytes, Key, Span};
 use std::alloc::{AllocError, Global};
@@ -41,5 +42,23 @@ impl Entry {
             return Err(error);
         }
         Ok(())
+    }
+
+    /// The entry that these bytes spell, from the first to the last. None exactly where they spell none.
+    ///
+    /// Each byte of a key, an end or a value is copied once. A length that the bytes claim is looked at before memory is
+    /// taken for it, so no more is taken than the bytes are long.
+    pub fn decode(alloc: Global, from: &[u8]) -> Result<Option<Entry>, AllocError>
+        ensures some { IfOk result (λ found. IfSome found (λ entry. from.now ≡ entry_spelling (entry_of entry))) }
+        ensures in_form { IfOk result (λ found. IfSome found (λ entry. IsEntry (entry_of entry))) }
+        ensures none { IfOk result (λ found. IfNone found ((entry : LogEntry) → IsEntry entry → from.now ≡ entry_spelling entry → ⊥)) }
+    {
+        let Some((count, rest)) = read_count(from) else {
+            return Ok(None);
+        };
+        let Some(change) = read_change(alloc, rest)? else {
+            return Ok(None);
+        };
+        Ok(Some(Entry { count, change }))
     }
 }

@@ -1,8 +1,13 @@
 //! Log entries: a changing command with its count, spelled as the payload of a log.
 #![tactic(auto)]
 
+mod decode;
 mod encode;
 mod entry;
 mod kinds;
+mod parts;
 
 pub use entry::{Change, Entry};
+
+#[cfg(test)]
+mod tests;

@@ -1,5 +1,5 @@
 -- What bytes that are some command's content tell of the fields in them.
-use Rattle.std.proofs.Common.{◌≡◌, ℕ, ◌^◌, ◌<◌, ◌≤◌, List, ◌∷◌, ◌++◌, length, sym, ap, subst, arith}
+use Rattle.std.proofs.Common.{◌≡◌, ℕ, ◌^◌, ◌<◌, ◌≤◌, List, ◌++◌, length, sym, ap, subst, arith}
 use Rattle.pb_bytes.specs.Varint.{field}
 use Rattle.pb_keys.specs.Key.{IsKey}
 use Rattle.pb_keys.specs.Span.{IsSpan, span_of}

@@ -1,0 +1,42 @@
+ghost use Rattle.std.specs.Prelude.{◌≡◌};
+
+use super::Physical;
+use std::marker::Model;
+
+/// New tables with bytes of their own.
+#[derive(Debug, Drop)]
+pub struct Physicals {
+    all: Vec<Physical>,
+}
+
+impl Model for Physicals {
+    ghost use Rattle.std.specs.Prelude.{List};
+    ghost use Rattle.pb_edit.specs.Edit.{PhysicalItem};
+
+    ghost Value = { List PhysicalItem };
+
+    ghost view = { λ l. l.all.items };
+}
+
+impl Physicals {
+    /// Those of this vector, in order.
+    pub fn from_vec(all: Vec<Physical>) -> Physicals
+        ensures { result ≡ all.items }
+    {
+        Physicals { all }
+    }
+
+    /// All of them, in order.
+    pub fn into_vec(self) -> Vec<Physical>
+        ensures { result.items ≡ self }
+    {
+        self.all
+    }
+
+    /// All of them, in order.
+    pub fn as_slice(&self) -> &[Physical]
+        ensures { result.now ≡ self.now }
+    {
+        self.all.as_slice()
+    }
+}

@@ -1,0 +1,42 @@
+ghost use Rattle.std.specs.Prelude.{◌≡◌};
+
+use super::Virtual;
+use std::marker::Model;
+
+/// New tables that show parts of backings.
+#[derive(Debug, Drop)]
+pub struct Virtuals {
+    all: Vec<Virtual>,
+}
+
+impl Model for Virtuals {
+    ghost use Rattle.std.specs.Prelude.{List};
+    ghost use Rattle.pb_edit.specs.Edit.{VirtualItem};
+
+    ghost Value = { List VirtualItem };
+
+    ghost view = { λ l. l.all.items };
+}
+
+impl Virtuals {
+    /// Those of this vector, in order.
+    pub fn from_vec(all: Vec<Virtual>) -> Virtuals
+        ensures { result ≡ all.items }
+    {
+        Virtuals { all }
+    }
+
+    /// All of them, in order.
+    pub fn into_vec(self) -> Vec<Virtual>
+        ensures { result.items ≡ self }
+    {
+        self.all
+    }
+
+    /// All of them, in order.
+    pub fn as_slice(&self) -> &[Virtual]
+        ensures { result.now ≡ self.now }
+    {
+        self.all.as_slice()
+    }
+}

@@ -1,3 +1,10 @@
+ghost use Rattle.pb_edit.specs.Grammar.{created_content};
+ghost use Rattle.pb_edit.specs.Reading.{created_kind};
+
+use super::item::Item;
+use super::read::{ReadError, number_of};
+use pb_bytes::put_varint;
+use std::alloc::{AllocError, Global};
 use std::marker::Model;
 
 /// A new backing: bytes that virtual tables show.
@@ -14,4 +21,31 @@ impl Model for Created {
     ghost Value = { CreatedItem };
 
     ghost view = { λ c. record { number = c.number; size = c.size } };
+}
+
+impl Item for Created {
+    ghost form = { created_kind };
+
+    ghost content = { created_content };
+
+    fn kind() -> u8 {
+        9
+    }
+
+    #[tactic(auto, unfolding(crate::specs::Reading::created_at))]
+    fn read(_alloc: Global, from: &[u8]) -> Result<(Self, &[u8]), ReadError> {
+        let (number, rest) = number_of(from)?;
+        let (size, rest) = number_of(rest)?;
+        Ok((Created { number, size }, rest))
+    }
+
+    fn is_below(&self, other: &Self) -> bool {
+        self.number < other.number
+    }
+
+    fn put(&self, alloc: Global, out: &mut Vec<u8>) -> Result<(), AllocError> {
+        put_varint(alloc, out, self.number)?;
+        put_varint(alloc, out, self.size)?;
+        Ok(())
+    }
 }

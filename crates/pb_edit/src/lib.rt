@@ -7,9 +7,12 @@ mod deleted;
 mod deletions;
 mod edit;
 mod grammar;
+mod item;
+pub mod laws;
 mod numbers;
 mod physical;
 mod physicals;
+mod read;
 mod virtual_table;
 mod virtuals;
 
@@ -24,3 +27,6 @@ pub use physical::Physical;
 pub use physicals::Physicals;
 pub use virtual_table::Virtual;
 pub use virtuals::Virtuals;
+
+#[cfg(test)]
+mod tests;

@@ -1,5 +1,11 @@
 ghost use Rattle.std.specs.Prelude.{◌≡◌};
+ghost use Rattle.pb_edit.specs.Grammar.{removed_content};
+ghost use Rattle.pb_edit.specs.Reading.{removed_kind};
 
+use super::item::Item;
+use super::read::{ReadError, number_of};
+use pb_bytes::put_varint;
+use std::alloc::{AllocError, Global};
 use std::marker::Model;
 
 /// The numbers of backings that go.
@@ -36,5 +42,28 @@ impl Numbers {
         ensures { result.now ≡ self.now }
     {
         self.all.as_slice()
+    }
+}
+
+/// The number of a backing that goes.
+impl Item for u64 {
+    ghost form = { removed_kind };
+
+    ghost content = { removed_content };
+
+    fn kind() -> u8 {
+        10
+    }
+
+    fn read(_alloc: Global, from: &[u8]) -> Result<(u64, &[u8]), ReadError> {
+        number_of(from)
+    }
+
+    fn is_below(&self, other: &u64) -> bool {
+        *self < *other
+    }
+
+    fn put(&self, alloc: Global, out: &mut Vec<u8>) -> Result<(), AllocError> {
+        put_varint(alloc, out, *self)
     }
 }

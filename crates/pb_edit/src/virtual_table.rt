@@ -1,4 +1,11 @@
+ghost use Rattle.pb_edit.specs.Grammar.{virtual_content};
+ghost use Rattle.pb_edit.specs.Reading.{virtual_kind};
+
+use super::item::Item;
+use super::read::{ReadError, bytes_of, level_of, number_of};
+use pb_bytes::{put_field, put_varint};
 use pb_keys::Bytes;
+use std::alloc::{AllocError, Global};
 use std::marker::Model;
 
 /// A new table that shows the part of a backing between its ends, with a prefix before every key and a suffix in the place
@@ -22,4 +29,53 @@ impl Model for Virtual {
     ghost Value = { VirtualItem };
 
     ghost view = { λ v. record { level = v.level; number = v.number; rank = v.rank; backing = v.backing; lo = v.lo; hi = v.hi; prefix = v.prefix; suffix = v.suffix } };
+}
+
+impl Item for Virtual {
+    ghost form = { virtual_kind };
+
+    ghost content = { virtual_content };
+
+    fn kind() -> u8 {
+        8
+    }
+
+    #[tactic(auto, unfolding(crate::specs::Reading::virtual_at))]
+    fn read(alloc: Global, from: &[u8]) -> Result<(Self, &[u8]), ReadError> {
+        let (level, rest) = level_of(from)?;
+        let (number, rest) = number_of(rest)?;
+        let (rank, rest) = number_of(rest)?;
+        let (backing, rest) = number_of(rest)?;
+        let (lo, rest) = bytes_of(alloc, rest)?;
+        let (hi, rest) = bytes_of(alloc, rest)?;
+        let (prefix, rest) = bytes_of(alloc, rest)?;
+        let (suffix, rest) = bytes_of(alloc, rest)?;
+        let table = Virtual {
+            level,
+            number,
+            rank,
+            backing,
+            lo,
+            hi,
+            prefix,
+            suffix,
+        };
+        Ok((table, rest))
+    }
+
+    fn is_below(&self, other: &Self) -> bool {
+        self.level < other.level || (self.level == other.level && self.number < other.number)
+    }
+
+    fn put(&self, alloc: Global, out: &mut Vec<u8>) -> Result<(), AllocError> {
+        out.push(self.level)?;
+        put_varint(alloc, out, self.number)?;
+        put_varint(alloc, out, self.rank)?;
+        put_varint(alloc, out, self.backing)?;
+        put_field(alloc, out, self.lo.as_slice())?;
+        put_field(alloc, out, self.hi.as_slice())?;
+        put_field(alloc, out, self.prefix.as_slice())?;
+        put_field(alloc, out, self.suffix.as_slice())?;
+        Ok(())
+    }
 }

@@ -1,0 +1,41 @@
+-- Spans that are passed, as the prefixes ascend.
+use Rattle.std.proofs.Common.{◌≡◌, ℕ, ◌+◌, ◌<◌, List, length, get_or, true, false, ap, ◌∙◌, subst, arith, inl, inr}
+use Rattle.std.specs.Prelude.{All, not}
+use Rattle.std.specs.List.Sorted.{IsPartitionPoint}
+use Rattle.std.proofs.lemmas.Bool.{cases_lt}
+use Rattle.std.proofs.lemmas.List.{get_or_default}
+use Rattle.pb_keys.specs.Key.{prefix_of}
+use Rattle.pb_keys.specs.Order.{is_below, is_upto}
+use Rattle.pb_keys.specs.Span.{KeySpan, IsSpan}
+use Rattle.pb_keys.proofs.KeyFacts.{prefixes_ascend}
+use Rattle.pb_keys.proofs.OrderFacts.{upto_chain}
+use Rattle.pb_rangedel.specs.Spans.{EndUpto}
+use Rattle.pb_rows.specs.Layer.{KeyRow, AreApart, Rise}
+use Rattle.pb_rows.proofs.LookLaws.{is_span_below, spans_are_parted}
+use Rattle.pb_rangedel.proofs.Bits.{not_so, not_true}
+
+pub end_more : (bytes : List ℕ) (spans : List KeySpan) (n : ℕ) (s : KeySpan) → EndUpto bytes spans n → n < length spans → s ≡ get_or spans n s → is_upto s.hi bytes ≡ true → EndUpto bytes spans (n + 1)
+end_more bytes spans n s before within s_is here k d h =
+    elim (cases_lt k n) [
+      | inl earlier ↦ before k d earlier
+      | inr past ↦
+          let place : n ≡ k = omega arith in
+          let value : s ≡ get_or spans k d = subst (λ m. s ≡ get_or spans m d) place (s_is ∙ get_or_default spans n s d within) in
+          subst (λ t. is_upto t.hi bytes ≡ true) value here
+    ]
+
+-- the place behind the passed spans parts the list
+pub passed_part : (bytes : List ℕ) (spans : List KeySpan) (at : ℕ) → All IsSpan spans → AreApart spans → EndUpto bytes spans at → (at < length spans → (d : KeySpan) → is_upto (get_or spans at d).hi bytes ≡ false) → IsPartitionPoint (λ s. is_span_below bytes s ≡ true) (λ s. is_span_below bytes s ≡ false) spans at
+passed_part bytes spans at are apart before stops = (
+  λ k d within h. before k d h,
+  λ k d h within. not_true (is_upto (get_or spans k d).hi bytes) (λ e.
+      let first : is_upto (get_or spans at d).hi bytes ≡ true = spans_are_parted spans bytes are apart at k d h within e in
+      let other : is_upto (get_or spans at d).hi bytes ≡ false = stops (omega arith) d in
+      cc),
+)
+
+-- spans that end before one row's prefix end before the next one's
+pub passed_more : (dels : List KeySpan) (rows : List KeyRow) (at n : ℕ) → Rise rows → ((d : KeyRow) → at < length rows → EndUpto (prefix_of (get_or rows at d).key) dels n) → (d : KeyRow) → at + 1 < length rows → EndUpto (prefix_of (get_or rows (at + 1) d).key) dels n
+passed_more dels rows at n rise before d within k e h =
+    let up : is_below (prefix_of (get_or rows (at + 1) d).key) (prefix_of (get_or rows at d).key) ≡ false = prefixes_ascend (get_or rows at d).key (get_or rows (at + 1) d).key (rise at d within) in
+    ap not (upto_chain (get_or dels k e).hi (prefix_of (get_or rows at d).key) (prefix_of (get_or rows (at + 1) d).key) (not_so _ (before d (omega arith) k e h)) up)

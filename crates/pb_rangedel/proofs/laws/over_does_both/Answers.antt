@@ -1,0 +1,5 @@
+use Rattle.pb_rangedel.proofs.LayerLaws.{applied-over}
+use Rattle.pb_rangedel.proofs.laws.over_does_both.Goals as goal
+
+pub returns : goal.returns
+returns c = applied-over

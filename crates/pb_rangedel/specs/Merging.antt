@@ -1,0 +1,25 @@
+-- The merge of newer rows and older rows, step by step.
+use Rattle.std.specs.Prelude.{◌≡◌, ℕ, ◌+◌, ◌<◌, List, ◌∷◌, length, not, filter, drop, slice_index_or}
+use Rattle.pb_keys.specs.Span.{KeySpan}
+use Rattle.pb_rangedel.specs.declared.rows.Step.{Step}
+use Rattle.pb_rangedel.specs.declared.rows.Step.TheVariants.{Newer, Older, Skip}
+use Rattle.pb_rows.specs.Layer.{KeyRow}
+use Rattle.pb_rows.specs.Over.{rows_over}
+use Rattle.pb_rows.specs.Verdict.{is_covered}
+
+-- the rows whose keys none of the spans holds
+abbrev pub uncovered : List KeySpan → List KeyRow → List KeyRow
+uncovered dels rows = filter (λ row. not (is_covered dels row.key)) rows
+
+-- what is still to be written at these places of both lists
+abbrev pub rest_of : List KeySpan → List KeyRow → List KeyRow → ℕ → ℕ → List KeyRow
+rest_of dels newer older new old = rows_over (drop new newer) (uncovered dels (drop old older))
+
+-- the next row is the newer one, the older one, or the older one is left out
+abbrev pub IsStep : Step → List KeySpan → List KeyRow → List KeyRow → ℕ → ℕ → Type 0
+IsStep Newer dels newer older new old =
+    (new < length newer) × ((d : KeyRow) → rest_of dels newer older new old ≡ slice_index_or newer new d ∷ rest_of dels newer older (new + 1) old)
+IsStep Older dels newer older new old =
+    (old < length older) × ((d : KeyRow) → rest_of dels newer older new old ≡ slice_index_or older old d ∷ rest_of dels newer older new (old + 1))
+IsStep Skip dels newer older new old =
+    (old < length older) × (rest_of dels newer older new old ≡ rest_of dels newer older new (old + 1))

@@ -88,7 +88,7 @@ normal-union_of (s ∷ ss) ts are normal = normal-with_span s (union_of ss ts) (
 -- ---- one list alone
 
 -- the end of a span is a prefix
-end_is_prefix : (bytes : List ℕ) → IsEnd bytes → prefix_of bytes ≡ bytes
+pub end_is_prefix : (bytes : List ℕ) → IsEnd bytes → prefix_of bytes ≡ bytes
 end_is_prefix bytes is =
     let at : length bytes ≡ suffix_start bytes = suffix_start_is bytes (length bytes) (omega arith) (λ k h. is.plain k 0 h) (λ h. absurd (omega arith)) in
     take_all (suffix_start bytes) bytes (omega arith)

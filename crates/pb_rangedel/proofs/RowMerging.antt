@@ -72,10 +72,10 @@ all-rows_over P [] older new old = old
 all-rows_over P (row ∷ newer) older new old =
     all-with_row P row (rows_over newer older) (All-head P row newer new) (all-rows_over P newer older (All-tail P row newer new) old)
 
-turned_greater : (a b : List ℕ) → key_cmp a b ≡ Greater → key_cmp b a ≡ Less
+pub turned_greater : (a b : List ℕ) → key_cmp a b ≡ Greater → key_cmp b a ≡ Less
 turned_greater a b h = key_cmp_total.antisymm b a ∙ ap ordering_reverse h
 
-turned_less : (a b : List ℕ) → key_cmp a b ≡ Less → key_cmp b a ≡ Greater
+pub turned_less : (a b : List ℕ) → key_cmp a b ≡ Less → key_cmp b a ≡ Greater
 turned_less a b h = key_cmp_total.antisymm b a ∙ ap ordering_reverse h
 
 pub rising-with_row : (row : KeyRow) (rows : List KeyRow) → Rising rows → Rising (with_row row rows)
@@ -93,7 +93,7 @@ rising-rows_over (row ∷ newer) older rising = rising-with_row row (rows_over n
 
 -- ---- the first row of the result
 
-front_row : (row : KeyRow) (rows : List KeyRow) → Follow row.key rows → with_row row rows ≡ row ∷ rows
+pub front_row : (row : KeyRow) (rows : List KeyRow) → Follow row.key rows → with_row row rows ≡ row ∷ rows
 front_row row [] follow = refl
 front_row row (s ∷ ss) follow =
     ap (λ o. by_order o (row ∷ s ∷ ss) (row ∷ ss) (s ∷ with_row row ss)) (All-head (λ r. key_cmp row.key r.key ≡ Less) s ss follow)
@@ -119,7 +119,7 @@ same_front s row newer older e new old =
 rest_follows : (rows : List KeyRow) (at : ℕ) (d : KeyRow) → Rise rows → at < length rows → Follow (get_or rows at d).key (drop (at + 1) rows)
 rest_follows rows at d rise within = (subst Rising (drop_more rows at d within) (rising-drop at rows (rising_from_rise rows rise))).0
 
-drop_follows : (key : List ℕ) (rows : List KeyRow) (at : ℕ) (d : KeyRow) → Rise rows → (at < length rows → key_cmp key (get_or rows at d).key ≡ Less) → Follow key (drop at rows)
+pub drop_follows : (key : List ℕ) (rows : List KeyRow) (at : ℕ) (d : KeyRow) → Rise rows → (at < length rows → key_cmp key (get_or rows at d).key ≡ Less) → Follow key (drop at rows)
 drop_follows key rows at d rise less =
     elim (cases_lt at (length rows)) [
       | inl within ↦ subst (Follow key) (sym (drop_more rows at d within))

@@ -1,5 +1,5 @@
+ghost use Rattle.std.specs.Prelude.{◌<◌};
 ghost use Rattle.pb_edit.specs.Grammar.{IsEdit};
-ghost use Rattle.std.specs.Prelude.{IfOk};
 
 use crate::item::Item;
 use crate::{
@@ -72,8 +72,10 @@ fn tables_go_and_come(rt: HostRuntime) -> Result<(), Fail> {
     assert_eq!(rt; edit.removed.as_slice().len(), 0);
     let deleted = edit.deleted.as_slice();
     assert!(rt; deleted.len() == 2);
-    assert_eq!(rt; deleted[0].number, 4);
-    assert_eq!(rt; deleted[1].number, 5);
+    let first = &deleted[0];
+    let second = &deleted[1];
+    assert_eq!(rt; first.number, 4);
+    assert_eq!(rt; second.number, 5);
     let physical = edit.physical.into_vec();
     assert!(rt; physical.len() == 2);
     let table = &physical[0];

@@ -1,10 +1,10 @@
 -- The edit that is read is the edit that is spelled, and what is spelled is read again.
-use Rattle.std.proofs.Common.{◌≡◌, ℕ, ◌<◌, Bool, cond, eqb, List, [], ◌∷◌, ◌++◌, length, Option, Some, None, refl, sym, ap, subst, ◌∙◌, append_assoc, arith}
+use Rattle.std.proofs.Common.{◌≡◌, ℕ, ◌<◌, cond, eqb, List, [], ◌∷◌, ◌++◌, length, Option, Some, None, refl, sym, ap, subst, ◌∙◌, append_assoc, arith}
 use Rattle.std.specs.Prelude.{IfSome, nat_lt}
 use Rattle.std.proofs.lemmas.Bool.{eqb-true}
 use Rattle.std.proofs.lemmas.List.{append-nil, nil_from_length}
 use Rattle.std.proofs.lemmas.Option.{cond_some}
-use Rattle.pb_edit.specs.Edit.{DeletedItem, PhysicalItem, VirtualItem, CreatedItem, VersionEdit}
+use Rattle.pb_edit.specs.Edit.{VersionEdit}
 use Rattle.pb_edit.specs.Grammar.{number_item, items, deleted_content, physical_content, virtual_content, created_content, removed_content, numbers_spelling, lists_spelling, edit_spelling, IsNumber, IsDeleted, IsPhysical, IsVirtual, IsCreated, deleted_below, physical_below, virtual_below, created_below, AreItems, IsEdit}
 use Rattle.pb_edit.specs.Reading.{◌>>=◌, optional_at, all_at, deleted_kind, physical_kind, virtual_kind, created_kind, removed_kind, numbers_at, lists_at, edit_at}
 use Rattle.pb_edit.proofs.Parts.{bind_some, same_found, Splits, both_split}

@@ -1,5 +1,5 @@
 -- The first edit of a new store, and edits with tables.
-use Rattle.std.proofs.Common.{◌≡◌, ℕ, List, [], ◌∷◌, Some, None, refl}
+use Rattle.std.proofs.Common.{◌≡◌, [], ◌∷◌, Some, None, refl}
 use Rattle.pb_bytes.specs.Varint.{groups, varint, field}
 use Rattle.pb_edit.specs.Edit.{VersionEdit, PhysicalItem}
 use Rattle.pb_edit.specs.Grammar.{edit_spelling}

@@ -1,4 +1,4 @@
-use Rattle.std.proofs.Common.{◌<◌, length, length-append, sym, ap, arith}
+use Rattle.std.proofs.Common.{◌<◌, length, length-append, ap, arith}
 use Rattle.std.proofs.lemmas.Result.{err_from_is_err_and}
 use Rattle.pb_edit.proofs.Loops.{goes_on, ends, all_read}
 use Rattle.pb_edit.proofs.item.read_items.Goals as goal

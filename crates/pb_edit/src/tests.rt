@@ -67,10 +67,10 @@ fn tables_go_and_come(rt: HostRuntime) -> Result<(), Fail> {
     let edit = Edit::decode(alloc, &EXCHANGE)?.ok_or("no edit")?;
     assert!(rt; edit.accepted.is_none());
     assert_eq!(rt; edit.log, Some(128));
-    assert_eq!(rt; edit.virtuals.as_slice().len(), 0);
-    assert_eq!(rt; edit.created.as_slice().len(), 0);
-    assert_eq!(rt; edit.removed.as_slice().len(), 0);
-    let deleted = edit.deleted.as_slice();
+    assert_eq!(rt; edit.virtuals.into_vec().len(), 0);
+    assert_eq!(rt; edit.created.into_vec().len(), 0);
+    assert_eq!(rt; edit.removed.into_vec().len(), 0);
+    let deleted = edit.deleted.into_vec();
     assert!(rt; deleted.len() == 2);
     let first = &deleted[0];
     let second = &deleted[1];

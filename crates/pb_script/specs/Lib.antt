@@ -1,0 +1,9 @@
+pub mod Texts
+pub mod Words
+pub mod Strings
+pub mod Answers
+pub mod Fields
+pub mod Commands
+pub mod Lines
+pub mod TableLines
+pub mod Script

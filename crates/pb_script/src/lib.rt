@@ -1,0 +1,22 @@
+//! Scripts: the lines that a script spells, or the first line that is off the grammar.
+#![tactic(auto)]
+
+mod command;
+mod commands;
+mod cuts;
+mod fault;
+mod fields;
+mod line;
+mod lines;
+mod script;
+mod spelling;
+mod table_line;
+mod table_lines;
+mod word_list;
+
+pub use command::Command;
+pub use fault::ParseError;
+pub use line::{Lane, Line};
+pub use script::parse;
+pub use table_line::{TableLine, TableLines};
+pub use word_list::Words;

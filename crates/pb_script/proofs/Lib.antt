@@ -4,3 +4,10 @@ pub mod Names
 pub mod Coded
 pub mod Turns
 mod Examples
+pub mod Formed
+pub mod FormedLines
+pub mod FormedScripts
+pub mod Again
+pub mod AgainLines
+pub mod AgainTexts
+pub mod AgainScripts

@@ -7,3 +7,5 @@ pub mod Commands
 pub mod Lines
 pub mod TableLines
 pub mod Script
+pub mod Form
+pub mod Spelling

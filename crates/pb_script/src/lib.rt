@@ -6,6 +6,7 @@ mod commands;
 mod cuts;
 mod fault;
 mod fields;
+pub mod laws;
 mod line;
 mod lines;
 mod script;

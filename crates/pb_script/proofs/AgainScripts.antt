@@ -174,12 +174,12 @@ block_again name (l ∷ lines) front rest more are behind =
     let words = table_line_words l in
     let left = (flat_map spelled_table_line lines ++ with_end (codes "end")) ++ rest in
     let regrouped : (flat_map spelled_table_line (l ∷ lines) ++ with_end (codes "end")) ++ rest ≡ with_end (spelled_words words) ++ left =
-        ap (λ (t : List ℕ). t ++ rest) (append_assoc (with_end (spelled_words words)) (flat_map spelled_table_line lines) (with_end (codes "end")))
-        ∙ append_assoc (with_end (spelled_words words)) (flat_map spelled_table_line lines ++ with_end (codes "end")) rest in
+    ap (λ (t : List ℕ). t ++ rest) (append_assoc (with_end (spelled_words words)) (flat_map spelled_table_line lines) (with_end (codes "end")))
+    ∙ append_assoc (with_end (spelled_words words)) (flat_map spelled_table_line lines ++ with_end (codes "end")) rest in
     ap (λ (t : List ℕ). read_texts (Within name front) (texts_of t)) regrouped
     ∙ ap (read_texts (Within name front)) (texts_again words left (table_line_are_words l are.0))
     ∙ read_step (Within name front) (spelled_words words) (texts_of left) (Within name (front ++ l ∷ []), None) (line.Table name ((front ++ l ∷ []) ++ lines) ∷ more)
-        (step_table_line name front l are.0) (block_again name lines (front ++ l ∷ []) rest more are.1 behind)
+    (step_table_line name front l are.0) (block_again name lines (front ++ l ∷ []) rest more are.1 behind)
     ∙ ap (λ (ls : List TableLine). Lines (line.Table name ls ∷ more)) (append_assoc front (l ∷ []) lines)
 
 -- the first text of a line, and what is behind it

@@ -18,6 +18,6 @@ mod word_list;
 pub use command::Command;
 pub use fault::ParseError;
 pub use line::{Lane, Line};
-pub use script::parse;
+pub use script::{first_text, parse};
 pub use table_line::{TableLine, TableLines};
 pub use word_list::Words;

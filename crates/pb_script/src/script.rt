@@ -48,7 +48,7 @@ pub fn parse(alloc: Global, script: &[u8]) -> Result<Vec<Line>, ParseError>
 }
 
 /// The text of the first line, and what stands behind its end.
-fn first_text(script: &[u8]) -> (&[u8], &[u8])
+pub fn first_text(script: &[u8]) -> (&[u8], &[u8])
     requires { 0 < length script.now }
     ensures texts { texts_of script.now ≡ result.0.now ∷ texts_of result.1.now }
     ensures shorter { length result.1.now < length script.now }

@@ -1,0 +1,5 @@
+pub mod States
+pub mod Marks
+pub mod Stores
+pub mod Lines
+pub mod Runs

@@ -3,7 +3,7 @@ use Rattle.std.proofs.Common.{◌≡◌, ℕ, ◌<◌, ◌≤◌, Bool, true, fa
 use Rattle.std.proofs.lemmas.Bool.{cond-true, cond-false}
 use Rattle.std.proofs.lemmas.Bool.Decides.{nat_tests}
 use Rattle.pebble_cli.specs.Lines.{first_fault}
-use Rattle.pebble_cli.specs.Runs.{Task, too_long, task_of_script, task_of_source, max_script, Ends, Prints, text_of}
+use Rattle.pebble_cli.specs.Runs.{Task, usage, too_long, task_of_script, task_of_source, max_script, Ends, Prints, text_of}
 use Rattle.pebble_cli.specs.declared.status.Status.TheVariants.{Memory, Read}
 use Rattle.pebble_cli.proofs.Progress.{no_part}
 
@@ -21,6 +21,10 @@ memory_of_script bytes (Some place) = record { due = inr (inr refl); each_mark =
 pub memory_of_source : (bytes : List ℕ) (long : Bool) → Ends (cond long too_long (task_of_script bytes (first_fault bytes))) Memory []
 memory_of_source bytes true = record { due = inr (inr refl); each_mark = tt; every_line = λ whole. absurd whole }
 memory_of_source bytes false = memory_of_script bytes (first_fault bytes)
+
+pub memory_of_words : (bytes : List ℕ) (asks : Bool) → Ends (cond asks (task_of_source bytes) usage) Memory []
+memory_of_words bytes true = memory_of_source bytes (nat_lt max_script (length bytes))
+memory_of_words bytes false = record { due = inr refl; each_mark = tt; every_line = λ whole. absurd whole }
 
 read_of_script : (bytes : List ℕ) (fault : Option ℕ) → Ends (task_of_script bytes fault) Read []
 read_of_script bytes None = record { due = inr (inr refl); each_mark = tt; every_line = λ whole. absurd whole }

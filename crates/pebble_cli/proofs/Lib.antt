@@ -1,3 +1,4 @@
+pub mod UsageWords
 pub mod WordBytes
 pub mod LineWords
 pub mod Cuts

@@ -1,4 +1,5 @@
 pub mod Words
+pub mod Usage
 pub mod Lines
 pub mod Store
 pub mod Settings

@@ -1,20 +1,15 @@
 -- What a run comes to: its task, its status, and what it prints.
 use Rattle.std.specs.Prelude.{◌≡◌, ℕ, ◌+◌, ◌≤◌, Bool, false, not, ◌==◌, nat_lt, if◌then◌else◌, ◌⊎◌, List, [], ◌∷◌, ◌++◌, length, take, map, Option, Some, None, flat_map, codes}
 use Rattle.std.specs.List.{list_any}
-use Rattle.std.specs.Str.{bytes_eq}
 use Rattle.pb_devices.specs.Counts.{Rose}
 use Rattle.pb_devices.specs.declared.trace.Mark.{Mark}
+use Rattle.pebble_cli.specs.Usage.{is_run}
 use Rattle.pebble_cli.specs.Lines.{first_fault, lines_of}
 use Rattle.pebble_cli.specs.Machine.{Ran, closed, AreRan, replies}
 use Rattle.pebble_cli.specs.Replies.{printed, usage_text, too_long_text, fault_text}
 use Rattle.pebble_cli.specs.declared.line.Line.{Line}
 use Rattle.pebble_cli.specs.declared.status.Status.{Status}
 use Rattle.pebble_cli.specs.declared.status.Status.TheVariants.{Done, Refused, Usage, Script, Read, Write, Device, Memory, Damaged, TooLong}
-
--- the words are the one word `run`
-abbrev pub is_run : List (List ℕ) → Bool
-is_run (word ∷ []) = bytes_eq word (codes "run")
-is_run words = false
 
 -- the longest script, in bytes: 16 MiB
 abbrev pub max_script : ℕ
@@ -81,7 +76,7 @@ IsReadWhole status = IsWhole status ⊎ (status ≡ Script) ⊎ (status ≡ Writ
 
 -- the statuses that a task may have: its own, unless the source fails or memory is wanting before
 abbrev pub IsStatusOf : Task → Status → Type 0
-IsStatusOf usage status = status ≡ Usage
+IsStatusOf usage status = (status ≡ Usage) ⊎ (status ≡ Memory)
 IsStatusOf too_long status = (status ≡ TooLong) ⊎ (status ≡ Read) ⊎ (status ≡ Memory)
 IsStatusOf (fault number) status = (status ≡ Script) ⊎ (status ≡ Read) ⊎ (status ≡ Memory)
 IsStatusOf (script lines) status = IsWhole status ⊎ IsCutShort status ⊎ (status ≡ Read)

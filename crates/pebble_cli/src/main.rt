@@ -13,6 +13,7 @@ mod script;
 mod setting;
 mod status;
 mod store;
+mod usage;
 mod word;
 mod words;
 

@@ -5,8 +5,9 @@ ghost use Rattle.pebble_cli.specs.Lines.{first_fault};
 ghost use Rattle.pebble_cli.specs.Folder.{log_name, payloads_in, HasFrom};
 ghost use Rattle.pebble_cli.specs.Headline.{Headline, IsGood, IsSpoilt};
 ghost use Rattle.pebble_cli.specs.Machine.{State, mark_of, reply_to, state_after};
+ghost use Rattle.pebble_cli.specs.Usage.{is_run};
 ghost use Rattle.pebble_cli.specs.StoreStates.{IsIn, Keeps, Finds, IsSetBy, is_down, map_in, ran_of};
-ghost use Rattle.pebble_cli.specs.Runs.{script as script_task, fault, usage, task_of, task_of_source, task_of_script, lines_due, is_run, has_damage, IsReadWhole, IsWhole, IsCutShort, IsBeforeLines, Ends, Prints, Causes, Comes};
+ghost use Rattle.pebble_cli.specs.Runs.{script as script_task, fault, usage, task_of, task_of_source, task_of_script, lines_due, has_damage, IsReadWhole, IsWhole, IsCutShort, IsBeforeLines, Ends, Prints, Causes, Comes};
 
 use crate::line::Line;
 use crate::print::{fault_text, print_reply, say};
@@ -14,7 +15,7 @@ use crate::reply::{Refusal, Reply};
 use crate::script::{ParseError, ReadError, parse, read_script};
 use crate::status::Status;
 use crate::store::Store;
-use crate::words::is_run;
+use crate::usage::asks_to_run;
 use pb_devices::{Bucket, Disk, Sink, Source, Trace};
 use std::alloc::Global;
 
@@ -51,7 +52,7 @@ pub fn run<I: Source, O: Sink, D: Disk, B: Bucket>(
         → Headline (D.contents a) (D.contents b) (lines_due (task_of (map string_bytes words.now) (I.left script.old))) ran) }
     ensures said { O.told ≡ true → result ≡ Status.Usage → Prints usage result []
         (O.taken out.old) (O.taken out.new) (O.fault_count out.old) (O.fault_count out.new) }
-    ensures usage { MatchBool (is_run (map string_bytes words.now)) (result ≢ Status.Usage) (result ≡ Status.Usage) }
+    ensures usage { MatchBool (is_run (map string_bytes words.now)) (result ≢ Status.Usage) ((result ≡ Status.Usage) ⊎ (result ≡ Status.Memory)) }
     ensures causes { Causes result trace.new.marks (O.fault_count out.old) (O.fault_count out.new) }
     ensures device { (a b : D) (others : List D) → disks.old ≡ a ∷ others → disks.new ≡ b ∷ others
         → result ≡ Status.Device → Rose (D.fault_count a) (D.fault_count b) }
@@ -70,7 +71,10 @@ pub fn run<I: Source, O: Sink, D: Disk, B: Bucket>(
     ensures others { (a : D) (others : List D) → disks.old ≡ a ∷ others → (b : D) × (disks.new ≡ b ∷ others) }
     ensures bucket { bucket.new ≡ bucket.old }
 {
-    if !is_run(words) {
+    let Ok(asks) = asks_to_run(alloc, words) else {
+        return Status::Memory;
+    };
+    if !asks {
         return say(out, USAGE, Status::Usage);
     }
     run_source(alloc, script, out, &mut disks[0], trace)

@@ -1,13 +1,13 @@
 pub mod UsageWords
 pub mod WordBytes
-pub mod LineWords
-pub mod Cuts
 pub mod Maps
 pub mod SettingFacts
 pub mod SetFacts
 pub mod LogFacts
 pub mod LoggedFacts
 pub mod StoreFacts
+pub mod StepFacts
+pub mod StatusFacts
 pub mod Counting
 pub mod Progress
 pub mod Crash

@@ -6,7 +6,8 @@ use Rattle.pb_gate_log.proofs.LogStates.{each_has}
 use Rattle.pb_gate_log.specs.EachLog.{EachLog}
 use Rattle.pb_gate_log.specs.Payloads.{HasList}
 use Rattle.pebble_cli.specs.Settings.{Set, IsSet, payload_of}
-use Rattle.pebble_cli.specs.Store.{Map, Held}
+use Rattle.pb_keys.specs.Map.{Map}
+use Rattle.pebble_cli.specs.Store.{Held}
 use Rattle.pebble_cli.specs.Folder.{log_name, payloads_in, Make, KeepsLog}
 use Rattle.pebble_cli.proofs.LogFacts.{has_payloads}
 use Rattle.pebble_cli.proofs.SetFacts.{make_more}

@@ -6,24 +6,28 @@ use Rattle.std.proofs.lemmas.Bool.{cond-true}
 use Rattle.std.proofs.lemmas.Bool.Decides.{nat_tests}
 use Rattle.pb_devices.specs.Contents.{Contents, Folder, IsImage, MayLeave}
 use Rattle.pb_devices.specs.declared.trace.Mark.{Mark}
-use Rattle.pebble_cli.specs.Store.{Map}
+use Rattle.pb_keys.specs.Map.{Map}
 use Rattle.pebble_cli.specs.Folder.{log_name, payloads_in, Make, StandsFor}
-use Rattle.pebble_cli.specs.Headline.{Headline, IsHeld, MayStandFor}
-use Rattle.pebble_cli.specs.Machine.{State, Ran, closed, accepted_after, state_after, states_after}
+use Rattle.pebble_cli.specs.Headline.{Headline, IsHeld, MayStandFor, of_a}
+use Rattle.pb_script.specs.declared.command.Command.TheVariants.{Set}
+use Rattle.pb_script.specs.declared.line.Line.{Line}
+use Rattle.pb_script.specs.declared.line.Line.TheVariants.{Open, Whole}
+use Rattle.pb_machine.specs.States.{StoreState, FamilyState, start, unopened}
+use Rattle.pb_machine.specs.Marks.{Ran}
+use Rattle.pb_machine.specs.Stores.{changing_of, changed_by, opened_by, opening_after, command_after}
+use Rattle.pb_machine.specs.Runs.{states_after}
 use Rattle.pebble_cli.specs.Runs.{has_damage, marks_of, status_of}
-use Rattle.pebble_cli.specs.declared.line.Line.{Line}
-use Rattle.pebble_cli.specs.declared.line.Line.TheVariants.{Open, Set}
-use Rattle.pebble_cli.specs.declared.status.Status.{Status}
-use Rattle.pebble_cli.specs.declared.status.Status.TheVariants.{Done, Memory, Device, Damaged, Refused}
+use Rattle.pb_reply.specs.declared.status.Status.{Status}
+use Rattle.pb_reply.specs.declared.status.Status.TheVariants.{Success, Memory, Device, Damaged, Refused}
 use Rattle.pebble_cli.proofs.SetFacts.{one_make}
 
 abbrev pub one_set : List Line
-one_set = Open ∷ Set (97 ∷ []) (49 ∷ []) ∷ []
+one_set = Open 1 ∷ Whole 1 (Set (97 ∷ []) (49 ∷ [])) ∷ []
 
 abbrev pub one_pair : Map
 one_pair = insert empty (97 ∷ []) (49 ∷ [])
 
-abbrev no_refusal : (a b c d : Bool) → (if a then Memory else if b then Device else if c then Damaged else if d then Refused else Done) ≡ Done → d ≡ false
+abbrev no_refusal : (a b c d : Bool) → (if a then Memory else if b then Device else if c then Damaged else if d then Refused else Success) ≡ Success → d ≡ false
 no_refusal true b c d is = cc
 no_refusal false true c d is = cc
 no_refusal false false true d is = cc
@@ -43,11 +47,14 @@ not_refused n more is =
     let zero_is : (n == 0) ≡ true = both.0 in
     (grind (arith, nat_tests, zero_is), both.1)
 
-none_refused : (marks : List Mark) → status_of marks ≡ Done → list_any (λ (mark : Mark). not (mark.refusal == 0)) marks ≡ false
-none_refused marks is = no_refusal (list_any (λ (mark : Mark). mark.refusal == 24) marks) (list_any (λ (mark : Mark). mark.refusal == 22) marks) (has_damage marks) (list_any (λ (mark : Mark). not (mark.refusal == 0)) marks) is
+none_refused : (marks : List Mark) → status_of marks ≡ Success → list_any (λ (mark : Mark). not (mark.refusal == 0)) marks ≡ false
+none_refused marks is = no_refusal (list_any (λ (mark : Mark). mark.refusal == 24) marks) (list_any (λ (mark : Mark). mark.refusal == 22 || mark.refusal == 23) marks) (has_damage marks) (list_any (λ (mark : Mark). not (mark.refusal == 0)) marks) is
 
-taken : (state : State) (line : Line) (ran : Ran) → ran.mark.refusal ≡ 0 → state_after state line ran ≡ accepted_after state line ran
-taken state line ran is = cond-true (ran.mark.refusal == 0) _ _ (ap (λ n. n == 0) is)
+opened : (state : StoreState) (ran : Ran) → ran.mark.refusal ≡ 0 → opening_after state ran ≡ opened_by ran
+opened state ran is = cond-true (ran.mark.refusal == 0) _ _ (ap (λ n. n == 0) is)
+
+set_taken : (state : StoreState) (key value : List ℕ) (ran : Ran) → ran.mark.refusal ≡ 0 → command_after state (Set key value) ran ≡ changed_by (changing_of (Set key value)) state
+set_taken state key value ran is = cond-true (ran.mark.refusal == 0) _ _ (ap (λ n. n == 0) is)
 
 -- a folder without a log stands for nothing yet
 pub nothing_yet : (entry : Contents) (n : ℕ) (m : Map) → ((image : Option (List ℕ)) → MayLeave entry log_name image → image ≡ None) → MayStandFor entry n m → (n ≡ 0) × (m ≡ empty)
@@ -57,17 +64,16 @@ nothing_yet entry n m no_log stood =
 
 two_ran : (entry exit : Contents) (r s : Ran) → r.mark.refusal ≡ 0 → s.mark.refusal ≡ 0 → ((image : Option (List ℕ)) → MayLeave entry log_name image → image ≡ None)
     → Headline entry exit one_set (r ∷ s ∷ []) → (folder : Folder) → IsImage exit folder → StandsFor folder 1 one_pair
-two_ran entry exit r s opened accepted no_log headline folder is =
+two_ran entry exit r s first second no_log headline folder is =
     let stood = headline.images folder is in
-    let began = nothing_yet entry r.mark.count r.found no_log (headline.finds.0.1 opened) in
-    let began_open : State = accepted_after closed Open r in
-    let last : states_after closed one_set (r ∷ s ∷ []) ≡ accepted_after began_open (Set (97 ∷ []) (49 ∷ [])) s =
-    ap (λ (st : State). state_after st (Set (97 ∷ []) (49 ∷ [])) s) (taken closed Open r opened) ∙ taken began_open (Set (97 ∷ []) (49 ∷ [])) s accepted in
-    let held = subst (λ (st : State). IsHeld entry st stood.0 stood.1) last stood.3 in
+    let began = nothing_yet entry r.mark.count r.found no_log (headline.finds.0.1 first) in
+    let last : of_a (states_after start one_set (r ∷ s ∷ [])) ≡ changed_by (changing_of (Set (97 ∷ []) (49 ∷ []))) (opened_by r) =
+        ap (λ (st : StoreState). command_after st (Set (97 ∷ []) (49 ∷ [])) s) (opened unopened r first) ∙ set_taken (opened_by r) (97 ∷ []) (49 ∷ []) s second in
+    let held = subst (λ (st : StoreState). IsHeld entry st stood.0 stood.1) last stood.3 in
     subst (λ (l : Map). StandsFor folder 1 l) (held.1 ∙ ap (λ (l : Map). insert l (97 ∷ []) (49 ∷ [])) began.1)
     (subst (λ (k : ℕ). StandsFor folder k stood.1) (held.0 ∙ ap (λ k. k + 1) began.0) stood.2)
 
-pub after_one_set : (entry exit : Contents) (ran : List Ran) → length ran ≡ 2 → status_of (marks_of ran) ≡ Done → ((image : Option (List ℕ)) → MayLeave entry log_name image → image ≡ None)
+pub after_one_set : (entry exit : Contents) (ran : List Ran) → length ran ≡ 2 → status_of (marks_of ran) ≡ Success → ((image : Option (List ℕ)) → MayLeave entry log_name image → image ≡ None)
     → Headline entry exit one_set ran → (folder : Folder) → IsImage exit folder → StandsFor folder 1 one_pair
 after_one_set entry exit [] two done no_log headline folder is = absurd (omega (arith, two))
 after_one_set entry exit (r ∷ []) two done no_log headline folder is = absurd (omega (arith, two))

@@ -7,7 +7,7 @@ use Rattle.pb_bytes.specs.Varint.{field}
 use Rattle.pb_bytes.proofs.ReadingLemmas.{one_field}
 use Rattle.pebble_cli.specs.Settings.{Set, IsSet, Rises, AreSets, payload_of, map_after, count_after}
 use Rattle.pebble_cli.specs.Folder.{Make, IsRead}
-use Rattle.pebble_cli.specs.Store.{Map}
+use Rattle.pb_keys.specs.Map.{Map}
 use Rattle.pebble_cli.specs.Words.{is_word, IsWord}
 use Rattle.pebble_cli.proofs.SettingFacts.{same_count, word_short}
 

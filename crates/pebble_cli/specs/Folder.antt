@@ -6,7 +6,8 @@ use Rattle.pb_gate_log.specs.EachLog.{EachLog}
 use Rattle.pb_gate_log.specs.Payloads.{payloads}
 use Rattle.pb_names.specs.Spelling.{file_name}
 use Rattle.pb_names.specs.declared.file_kind.FileKind.TheVariants.{Log}
-use Rattle.pebble_cli.specs.Store.{Map, Held}
+use Rattle.pb_keys.specs.Map.{Map}
+use Rattle.pebble_cli.specs.Store.{Held}
 use Rattle.pebble_cli.specs.Settings.{Set, IsSet, AreSets, payload_of, map_after, count_after}
 
 -- the file of the log

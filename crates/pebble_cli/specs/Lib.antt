@@ -1,12 +1,12 @@
 pub mod Words
 pub mod Usage
 pub mod Lines
+pub mod Steps
 pub mod Store
 pub mod Settings
 pub mod Folder
-pub mod Machine
 pub mod StoreStates
-pub mod Replies
+pub mod Texts
 pub mod Runs
 pub mod Headline
 pub mod HostDisk

@@ -1,45 +1,40 @@
--- The grammar of a script.
-use Rattle.std.specs.Prelude.{ℕ, Bool, ◌&&◌, ◌==◌, if◌then◌else◌, List, [], ◌∷◌, length, Option, Some, None, is_none, codes}
-use Rattle.std.specs.List.{slice_split, position_from, filter_map}
-use Rattle.std.specs.Str.{bytes_eq}
+-- Which lines of a script are built, and what a script says of them.
+use Rattle.std.specs.Prelude.{ℕ, Bool, false, ◌&&◌, ◌==◌, if◌then◌else◌, List, [], Option, Some, None, is_none, unwrap_or}
+use Rattle.std.specs.List.{flat_map, list_all, position_from}
+use Rattle.pb_script.specs.Script.{ScriptRead, Lines, Fault, lines_of}
+use Rattle.pb_script.specs.Texts.{texts_of}
+use Rattle.pb_script.specs.declared.command.Command.TheVariants.{Set, Get}
+use Rattle.pb_script.specs.declared.line.Line.{Line}
+use Rattle.pb_script.specs.declared.line.Line.TheVariants.{Open, Whole}
 use Rattle.pebble_cli.specs.Words.{is_word}
-use Rattle.pebble_cli.specs.declared.line.Line.{Line}
-use Rattle.pebble_cli.specs.declared.line.Line.TheVariants.{Open, Set, Get}
 
--- the words of a line: exactly one space parts them
-abbrev pub words_of : List ℕ → List (List ℕ)
-words_of text = slice_split (λ byte. byte == 32) text
+-- the store that is built
+abbrev pub store_a : ℕ
+store_a = 1
 
--- what the words of a line say, nothing where they are off the grammar
-abbrev pub line_of_words : List (List ℕ) → Option Line
-line_of_words (a ∷ b ∷ []) =
-    if bytes_eq a (codes "open") && bytes_eq b (codes "A") then Some Open else None
-line_of_words (a ∷ b ∷ key ∷ []) =
-    if bytes_eq a (codes "A") && bytes_eq b (codes "get") && is_word key then Some (Get key) else None
-line_of_words (a ∷ b ∷ key ∷ value ∷ []) =
-    if bytes_eq a (codes "A") && bytes_eq b (codes "set") && is_word key && is_word value then Some (Set key value) else None
-line_of_words words = None
+-- the other lines come later
+abbrev pub is_built : Line → Bool
+is_built (Open store) = store == store_a
+is_built (Whole store (Set key value)) = store == store_a && is_word key && is_word value
+is_built (Whole store (Get key)) = store == store_a && is_word key
+is_built line = false
 
-abbrev pub line_of : List ℕ → Option Line
-line_of text = line_of_words (words_of text)
+abbrev pub built_lines : ScriptRead → Option (List Line)
+built_lines (Lines lines) = if list_all is_built lines then Some lines else None
+built_lines (Fault number) = None
 
--- what LF parts, without an end that is empty
-abbrev pub without_empty_end : List (List ℕ) → List (List ℕ)
-without_empty_end [] = []
-without_empty_end (text ∷ []) = if length text == 0 then [] else text ∷ []
-without_empty_end (text ∷ next ∷ texts) = text ∷ without_empty_end (next ∷ texts)
-
--- the lines of a script: each ends with LF, and the last may lack it
-abbrev pub texts_of : List ℕ → List (List ℕ)
-texts_of script = without_empty_end (slice_split (λ byte. byte == 10) script)
+-- the line that a text says, as a script of its own: none where it is skipped. Nothing where it is off the grammar, or where its
+-- line isn't built; so is the first text of a block, and no block is built
+abbrev pub said_by : List ℕ → Option (List Line)
+said_by text = built_lines (lines_of text)
 
 abbrev pub is_fault : List ℕ → Bool
-is_fault text = is_none (line_of text)
+is_fault text = is_none (said_by text)
 
--- the place of the first line that is off the grammar, counted from 0
+-- the place of the first text that is off the grammar or not built, counted from 0
 abbrev pub first_fault : List ℕ → Option ℕ
 first_fault script = position_from is_fault 0 (texts_of script)
 
 -- the lines of a script that has no fault
-abbrev pub lines_of : List ℕ → List Line
-lines_of script = filter_map line_of (texts_of script)
+abbrev pub due_lines : List ℕ → List Line
+due_lines script = flat_map (λ text. unwrap_or (said_by text) []) (texts_of script)

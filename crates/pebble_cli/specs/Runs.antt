@@ -1,15 +1,19 @@
 -- What a run comes to: its task, its status, and what it prints.
-use Rattle.std.specs.Prelude.{◌≡◌, ℕ, ◌+◌, ◌≤◌, Bool, false, not, ◌==◌, nat_lt, if◌then◌else◌, ◌⊎◌, List, [], ◌∷◌, ◌++◌, length, take, map, Option, Some, None, flat_map, codes}
-use Rattle.std.specs.List.{list_any}
+use Rattle.std.specs.Prelude.{◌≡◌, ℕ, ◌+◌, ◌≤◌, Bool, false, not, ◌==◌, ◌||◌, nat_lt, if◌then◌else◌, ◌⊎◌, List, [], ◌∷◌, ◌++◌, length, take, map, Option, Some, None, flat_map, codes}
+use Rattle.std.specs.List.{AllByRecursion, list_any}
 use Rattle.pb_devices.specs.Counts.{Rose}
 use Rattle.pb_devices.specs.declared.trace.Mark.{Mark}
 use Rattle.pebble_cli.specs.Usage.{is_run}
-use Rattle.pebble_cli.specs.Lines.{first_fault, lines_of}
-use Rattle.pebble_cli.specs.Machine.{Ran, closed, AreRan, replies}
-use Rattle.pebble_cli.specs.Replies.{printed, usage_text, too_long_text, fault_text}
-use Rattle.pebble_cli.specs.declared.line.Line.{Line}
-use Rattle.pebble_cli.specs.declared.status.Status.{Status}
-use Rattle.pebble_cli.specs.declared.status.Status.TheVariants.{Done, Refused, Usage, Script, Read, Write, Device, Memory, Damaged, TooLong}
+use Rattle.pb_script.specs.declared.line.Line.{Line}
+use Rattle.pb_reply.specs.Printed.{printed}
+use Rattle.pb_reply.specs.declared.status.Status.{Status}
+use Rattle.pb_reply.specs.declared.status.Status.TheVariants.{Success, Refused, Usage, Script, Read, Write, Device, Memory, Damaged, TooLong}
+use Rattle.pb_machine.specs.States.{start}
+use Rattle.pb_machine.specs.Marks.{Ran}
+use Rattle.pb_machine.specs.Runs.{AreRan, replies}
+use Rattle.pebble_cli.specs.Folder.{log_name}
+use Rattle.pebble_cli.specs.Lines.{first_fault, due_lines}
+use Rattle.pebble_cli.specs.Texts.{usage_text, too_long_text, fault_text}
 
 -- the longest script, in bytes: 16 MiB
 abbrev pub max_script : ℕ
@@ -23,10 +27,10 @@ pub data Task : Type 0 where
   script : List Line → Task
 
 abbrev pub task_of_script : List ℕ → Option ℕ → Task
-task_of_script bytes None = script (lines_of bytes)
+task_of_script bytes None = script (due_lines bytes)
 task_of_script bytes (Some place) = fault (place + 1)
 
--- in this order: the length of the script, its first line that is off the grammar
+-- in this order: the length of the script, its first line that is off the grammar or not built
 abbrev pub task_of_source : List ℕ → Task
 task_of_source bytes = if nat_lt max_script (length bytes) then too_long else task_of_script bytes (first_fault bytes)
 
@@ -43,11 +47,11 @@ abbrev pub text_of : Task → List Ran → List ℕ
 text_of usage ran = usage_text
 text_of too_long ran = too_long_text
 text_of (fault number) ran = fault_text number
-text_of (script lines) ran = flat_map printed (replies closed lines ran)
+text_of (script lines) ran = flat_map printed (replies start lines ran)
 
 -- every line ran, and every reply was printed
 abbrev pub IsWhole : Status → Type 0
-IsWhole Done = Unit {0}
+IsWhole Success = Unit {0}
 IsWhole Refused = Unit {0}
 IsWhole Device = Unit {0}
 IsWhole Damaged = Unit {0}
@@ -89,15 +93,20 @@ has_damage marks = list_any (λ mark. mark.refusal == 20) marks
 abbrev pub status_of : List Mark → Status
 status_of marks =
     if list_any (λ mark. mark.refusal == 24) marks then Memory
-    else if list_any (λ mark. mark.refusal == 22) marks then Device
+    else if list_any (λ mark. mark.refusal == 22 || mark.refusal == 23) marks then Device
     else if has_damage marks then Damaged
     else if list_any (λ mark. not (mark.refusal == 0)) marks then Refused
-    else Done
+    else Success
+
+-- damage is that of the log
+abbrev pub IsOfLog : Ran → Type 0
+IsOfLog ran = ran.damaged ≡ log_name
 
 -- how a run of a task ends
 pub record Ends (task : Task) (status : Status) (ran : List Ran) : Type 0 where
   pub due : IsStatusOf task status
-  pub each_mark : AreRan closed (lines_due task) ran
+  pub each_mark : AreRan start (lines_due task) ran
+  pub named : AllByRecursion IsOfLog ran
   pub every_line : IsWhole status → length ran ≡ length (lines_due task)
 
 -- the first bytes of a text were taken, any number of them

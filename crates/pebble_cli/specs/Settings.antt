@@ -4,7 +4,7 @@ use Rattle.std.specs.List.{AllByRecursion}
 use Rattle.std.specs.FinMap.{insert}
 use Rattle.pb_bytes.specs.Varint.{varint, field}
 use Rattle.pebble_cli.specs.Words.{IsWord}
-use Rattle.pebble_cli.specs.Store.{Map}
+use Rattle.pb_keys.specs.Map.{Map}
 
 -- a key is set to a value; with this command the store has accepted so many
 pub record Set : Type 0 where

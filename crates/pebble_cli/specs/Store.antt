@@ -1,14 +1,9 @@
 -- What an open store holds in memory.
 use Rattle.std.specs.Prelude.{ℕ, List, Option, Some, None, refl}
-use Rattle.std.specs.Ordering.{nat_cmp}
-use Rattle.std.specs.Cmp.Lexicographic.{slice_cmp}
 use Rattle.std.specs.Coded.{Coded, code_by, coded×, coded_list, coded_ℕ}
-use Rattle.std.specs.FinMap.{FinMap, code, insert}
+use Rattle.std.specs.FinMap.{code, insert}
+use Rattle.pb_keys.specs.Map.{Map}
 use Rattle.pb_gate_log.specs.EachLog.{LogPlace}
-
--- the value of each key
-abbrev pub Map : Type 0
-Map = FinMap (slice_cmp nat_cmp) (List ℕ)
 
 -- a map with one pair set beside it
 abbrev pub with_last : Option (List ℕ × List ℕ) → Map → Map

@@ -2,17 +2,18 @@
 #![tactic(auto)]
 
 mod host;
-mod line;
+mod lines;
+mod mark;
 mod open_log;
 mod opened;
 mod pairs;
 mod print;
-mod reply;
 mod run;
 mod script;
 mod setting;
-mod status;
+mod step;
 mod store;
+mod store_error;
 mod usage;
 mod word;
 mod words;
@@ -20,8 +21,8 @@ mod words;
 use host::{HostDisk, HostIn, HostOut};
 use pb_devices::Trace;
 use pb_mem::MemBucket;
+use pb_reply::Status;
 use run::run;
-use status::Status;
 use std::alloc::AllocError;
 use std::io;
 use std::process::ExitCode;
@@ -34,7 +35,7 @@ fn main(rt: HostRuntime) -> ExitCode {
         // Words that are no text are none of the usage.
         Err(_) => run_host(&rt, &[]),
     };
-    ExitCode::from(status as u8)
+    ExitCode::from(status.code())
 }
 
 /// Runs the words over the standard streams, the folders of the stores and an empty bucket.

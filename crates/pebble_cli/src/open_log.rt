@@ -4,10 +4,10 @@ ghost use Rattle.pb_devices.specs.Counts.{Rose};
 ghost use Rattle.pb_gate_log.specs.EachLog.{EachLog};
 ghost use Rattle.pebble_cli.specs.Folder.{log_name, payloads_in, Make, IsRead};
 ghost use Rattle.pebble_cli.specs.Settings.{Set, IsSet, payload_of};
-ghost use Rattle.pebble_cli.specs.Store.{Map};
+ghost use Rattle.pb_keys.specs.Map.{Map};
 
 use crate::pairs::Pairs;
-use crate::reply::Refusal;
+use crate::store_error::StoreError;
 use crate::setting::read_setting;
 use crate::word::Word;
 use pb_devices::{Disk, Fault};
@@ -17,16 +17,16 @@ use pb_names::{FileKind, Name, file};
 use std::alloc::Global;
 
 /// Opens the log of a store, or makes it where there is none, and gives its payloads. Nothing of it may be pending.
-pub fn open_log<D: Disk>(alloc: Global, disk: &mut D) -> Result<(GateLog, Vec<Bytes>), Refusal>
+pub fn open_log<D: Disk>(alloc: Global, disk: &mut D) -> Result<(GateLog, Vec<Bytes>), StoreError>
     requires { D.told ≡ true → IsSettled (D.contents disk.old) log_name }
     ensures file { IfOk result (λ opened. opened.0.file ≡ log_name) }
     ensures list { D.told ≡ true → IfOk result (λ opened. opened.1.items ≡ payloads_in ((D.contents disk.old).seen log_name)) }
     ensures log { D.told ≡ true → IfOk result (λ opened. EachLog opened.0 opened.1.items (D.contents disk.new)) }
     ensures crash { D.told ≡ true → (image : Option (List ℕ)) → MayLeave (D.contents disk.new) log_name image
         → payloads_in image ≡ payloads_in ((D.contents disk.old).seen log_name) }
-    ensures known { IfErr result (λ refusal. (refusal ≡ Refusal.DiskFault) ⊎ (refusal ≡ Refusal.NoMemory)) }
+    ensures known { IfErr result (λ refusal. (refusal ≡ StoreError.DiskFault) ⊎ (refusal ≡ StoreError.NoMemory)) }
     ensures later { D.fault_count disk.old ≤ D.fault_count disk.new }
-    ensures fault { result ≡ Err Refusal.DiskFault → Rose (D.fault_count disk.old) (D.fault_count disk.new) }
+    ensures fault { result ≡ Err StoreError.DiskFault → Rose (D.fault_count disk.old) (D.fault_count disk.new) }
 {
     let name = file(FileKind::Log, 3);
     if disk.len(name.as_str())?.is_some() {
@@ -40,7 +40,7 @@ fn read_log<D: Disk>(
     alloc: Global,
     disk: &mut D,
     name: Name,
-) -> Result<(GateLog, Vec<Bytes>), Refusal>
+) -> Result<(GateLog, Vec<Bytes>), StoreError>
     requires there { D.told ≡ true → IsSome ((D.contents disk.old).seen name) }
     requires settled { D.told ≡ true → IsSettled (D.contents disk.old) name }
     ensures file { IfOk result (λ opened. opened.0.file ≡ name) }
@@ -48,23 +48,23 @@ fn read_log<D: Disk>(
     ensures log { D.told ≡ true → IfOk result (λ opened. EachLog opened.0 opened.1.items (D.contents disk.new)) }
     ensures crash { D.told ≡ true → (image : Option (List ℕ)) → MayLeave (D.contents disk.new) name image
         → payloads_in image ≡ payloads_in ((D.contents disk.old).seen name) }
-    ensures known { IfErr result (λ refusal. (refusal ≡ Refusal.DiskFault) ⊎ (refusal ≡ Refusal.NoMemory)) }
+    ensures known { IfErr result (λ refusal. (refusal ≡ StoreError.DiskFault) ⊎ (refusal ≡ StoreError.NoMemory)) }
     ensures later { D.fault_count disk.old ≤ D.fault_count disk.new }
-    ensures fault { result ≡ Err Refusal.DiskFault → Rose (D.fault_count disk.old) (D.fault_count disk.new) }
+    ensures fault { result ≡ Err StoreError.DiskFault → Rose (D.fault_count disk.old) (D.fault_count disk.new) }
 {
     match GateLog::open(alloc, disk, name) {
         Ok(opened) => Ok(opened),
-        Err(Fault::Disk) => Err(Refusal::DiskFault),
-        Err(_) => Err(Refusal::NoMemory),
+        Err(Fault::Disk) => Err(StoreError::DiskFault),
+        Err(_) => Err(StoreError::NoMemory),
     }
 }
 
 /// The pairs that the payloads of a log set, in order, and the count of the last: 0 without a payload.
-pub fn read_sets(alloc: Global, payloads: &[Bytes]) -> Result<(Pairs, u64), Refusal>
+pub fn read_sets(alloc: Global, payloads: &[Bytes]) -> Result<(Pairs, u64), StoreError>
     ensures ok { IfOk result (λ read. Make payloads.now read.1 read.0) }
     ensures below { IfOk result (λ read. read.1 < 2 ^ 62) }
-    ensures damaged { result ≡ Err Refusal.Damaged → (n : ℕ) (m : Map) → Make payloads.now n m → ⊥ }
-    ensures known { IfErr result (λ refusal. (refusal ≡ Refusal.Damaged) ⊎ (refusal ≡ Refusal.NoMemory)) }
+    ensures damaged { result ≡ Err StoreError.Damaged → (n : ℕ) (m : Map) → Make payloads.now n m → ⊥ }
+    ensures known { IfErr result (λ refusal. (refusal ≡ StoreError.Damaged) ⊎ (refusal ≡ StoreError.NoMemory)) }
 {
     let mut pairs = Pairs::new(alloc);
     let mut least = 0;
@@ -83,23 +83,23 @@ fn read_payload(
     payload: &[u8],
     least: u64,
     pairs: &mut Pairs,
-) -> Result<u64, Refusal>
+) -> Result<u64, StoreError>
     ensures ok { IfOk result (λ n. IsRead payload.now least n pairs.old pairs.new) }
     ensures below { IfOk result (λ n. n < 2 ^ 62) }
-    ensures damaged { result ≡ Err Refusal.Damaged → (set : Set) → IsSet set → payload.now ≡ payload_of set → least ≤ set.count → ⊥ }
-    ensures known { IfErr result (λ refusal. (refusal ≡ Refusal.Damaged) ⊎ (refusal ≡ Refusal.NoMemory)) }
+    ensures damaged { result ≡ Err StoreError.Damaged → (set : Set) → IsSet set → payload.now ≡ payload_of set → least ≤ set.count → ⊥ }
+    ensures known { IfErr result (λ refusal. (refusal ≡ StoreError.Damaged) ⊎ (refusal ≡ StoreError.NoMemory)) }
 {
     let Some(setting) = read_setting(payload) else {
-        return Err(Refusal::Damaged);
+        return Err(StoreError::Damaged);
     };
     if setting.count < least {
-        return Err(Refusal::Damaged);
+        return Err(StoreError::Damaged);
     }
     let Some(key) = Word::new(alloc, setting.key)? else {
-        return Err(Refusal::Damaged);
+        return Err(StoreError::Damaged);
     };
     let Some(value) = Word::new(alloc, setting.value)? else {
-        return Err(Refusal::Damaged);
+        return Err(StoreError::Damaged);
     };
     pairs.set(key, value)?;
     Ok(setting.count)

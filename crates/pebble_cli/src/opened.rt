@@ -3,11 +3,11 @@ ghost use Rattle.std.specs.FinMap.{get, insert};
 ghost use Rattle.pb_devices.specs.Contents.{MayLeave};
 ghost use Rattle.pb_devices.specs.Counts.{Rose};
 ghost use Rattle.pebble_cli.specs.Folder.{log_name, payloads_in, HasFrom, KeepsLog, Make};
-ghost use Rattle.pebble_cli.specs.Store.{Map};
+ghost use Rattle.pb_keys.specs.Map.{Map};
 
 use crate::open_log::{open_log, read_sets};
 use crate::pairs::Pairs;
-use crate::reply::Refusal;
+use crate::store_error::StoreError;
 use crate::setting::{COUNTS, Setting, spell_setting};
 use crate::word::Word;
 use pb_devices::Disk;
@@ -39,16 +39,16 @@ impl Model for Opened {
 impl Opened {
     /// Opens the store of a folder: it finds what reads give after a barrier. After an error each image of the log still has
     /// the payloads of one that there was.
-    pub fn open<D: Disk>(alloc: Global, disk: &mut D) -> Result<Opened, Refusal>
+    pub fn open<D: Disk>(alloc: Global, disk: &mut D) -> Result<Opened, StoreError>
         ensures kept { D.told ≡ true → IfOk result (λ opened. KeepsLog opened (D.contents disk.new)) }
         ensures found { D.told ≡ true → IfOk result (λ opened. Make (payloads_in ((D.contents disk.old).seen log_name)) opened.count opened.map) }
-        ensures damaged { D.told ≡ true → result ≡ Err Refusal.Damaged
+        ensures damaged { D.told ≡ true → result ≡ Err StoreError.Damaged
             → (n : ℕ) (m : Map) → Make (payloads_in ((D.contents disk.old).seen log_name)) n m → ⊥ }
         ensures crash { D.told ≡ true → (image : Option (List ℕ)) → MayLeave (D.contents disk.new) log_name image
             → HasFrom (D.contents disk.old) image }
-        ensures known { IfErr result (λ refusal. (refusal ≡ Refusal.Damaged) ⊎ (refusal ≡ Refusal.DiskFault) ⊎ (refusal ≡ Refusal.NoMemory)) }
+        ensures known { IfErr result (λ refusal. (refusal ≡ StoreError.Damaged) ⊎ (refusal ≡ StoreError.DiskFault) ⊎ (refusal ≡ StoreError.NoMemory)) }
         ensures later { D.fault_count disk.old ≤ D.fault_count disk.new }
-        ensures fault { result ≡ Err Refusal.DiskFault → Rose (D.fault_count disk.old) (D.fault_count disk.new) }
+        ensures fault { result ≡ Err StoreError.DiskFault → Rose (D.fault_count disk.old) (D.fault_count disk.new) }
     {
         disk.barrier()?;
         let (log, payloads) = open_log(alloc, disk)?;
@@ -66,23 +66,23 @@ impl Opened {
         disk: &mut D,
         key: Word,
         value: Word,
-    ) -> Result<u64, Refusal>
+    ) -> Result<u64, StoreError>
         requires { D.told ≡ true → KeepsLog self.old (D.contents disk.old) }
         ensures kept { D.told ≡ true → OnOk result (KeepsLog self.new (D.contents disk.new)) }
         ensures ok { OnOk result ((self.new.count ≡ self.old.count + 1) × (self.new.map ≡ insert self.old.map key value)) }
         ensures count { IfOk result (λ n. n ≡ self.old.count + 1) }
-        ensures spent { (result ≡ Err Refusal.NumbersSpent) ↔ (2 ^ 62 ≤ self.old.count + 1) }
+        ensures spent { (result ≡ Err StoreError.NumbersSpent) ↔ (2 ^ 62 ≤ self.old.count + 1) }
         ensures same { OnErr result (self.new ≡ self.old) }
-        ensures crash { D.told ≡ true → (image : Option (List ℕ)) → result ≡ Err Refusal.DiskFault → MayLeave (D.contents disk.new) log_name image
+        ensures crash { D.told ≡ true → (image : Option (List ℕ)) → result ≡ Err StoreError.DiskFault → MayLeave (D.contents disk.new) log_name image
             → Make (payloads_in image) self.old.count self.old.map
             ⊎ Make (payloads_in image) (self.old.count + 1) (insert self.old.map key value) }
-        ensures known { OnErr result ((result ≡ Err Refusal.DiskFault)
-            ⊎ (((result ≡ Err Refusal.NumbersSpent) ⊎ (result ≡ Err Refusal.NoMemory)) × (disk.new ≡ disk.old))) }
+        ensures known { OnErr result ((result ≡ Err StoreError.DiskFault)
+            ⊎ (((result ≡ Err StoreError.NumbersSpent) ⊎ (result ≡ Err StoreError.NoMemory)) × (disk.new ≡ disk.old))) }
         ensures later { D.fault_count disk.old ≤ D.fault_count disk.new }
-        ensures fault { result ≡ Err Refusal.DiskFault → Rose (D.fault_count disk.old) (D.fault_count disk.new) }
+        ensures fault { result ≡ Err StoreError.DiskFault → Rose (D.fault_count disk.old) (D.fault_count disk.new) }
     {
         if self.count + 1 >= COUNTS {
-            return Err(Refusal::NumbersSpent);
+            return Err(StoreError::NumbersSpent);
         }
         let count = self.count + 1;
         let setting = Setting {

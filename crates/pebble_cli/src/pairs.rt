@@ -1,14 +1,13 @@
 ghost use Rattle.std.specs.Prelude.{◌≡◌, ℕ, ◌≤◌, ◌++◌, ◌∷◌, ◌⊎◌, [], true, List, Option, Err, IfErr, OnOk, OnErr, option_copied};
-ghost use Rattle.std.specs.Cmp.Lexicographic.{slice_cmp};
+ghost use Rattle.pb_keys.specs.Key.{key_cmp};
 ghost use Rattle.std.specs.FinMap.{empty, from_entries, get, insert};
-ghost use Rattle.std.specs.Ordering.{nat_cmp};
 ghost use Rattle.pb_devices.specs.Contents.{MayLeave};
 ghost use Rattle.pb_devices.specs.Counts.{Rose};
 ghost use Rattle.pb_gate_log.specs.EachLog.{EachLog};
 ghost use Rattle.pb_gate_log.specs.Payloads.{HasList};
 ghost use Rattle.pebble_cli.specs.Store.{with_last};
 
-use crate::reply::Refusal;
+use crate::store_error::StoreError;
 use crate::word::Word;
 use pb_devices::Disk;
 use pb_gate_log::GateLog;
@@ -29,7 +28,8 @@ pub struct Pairs {
 impl Model for Pairs {
     ghost use Rattle.std.specs.FinMap.{from_entries, code};
     ghost use Rattle.std.specs.Coded.{coded_list, coded_ℕ};
-    ghost use Rattle.pebble_cli.specs.Store.{Map, with_last};
+    ghost use Rattle.pb_keys.specs.Map.{Map};
+    ghost use Rattle.pebble_cli.specs.Store.{with_last};
 
     ghost Value = { Map };
 
@@ -62,13 +62,13 @@ impl Pairs {
     }
 
     /// Sets the value of a key. Without memory nothing has changed.
-    pub fn set(&mut self, key: Word, value: Word) -> Result<(), Refusal>
+    pub fn set(&mut self, key: Word, value: Word) -> Result<(), StoreError>
         ensures ok { OnOk result (self.new ≡ insert self.old key value) }
         ensures err { OnErr result (self.new ≡ self.old) }
-        ensures known { IfErr result (λ refusal. refusal ≡ Refusal.NoMemory) }
+        ensures known { IfErr result (λ refusal. refusal ≡ StoreError.NoMemory) }
     {
         if !settle(&mut self.by_key, &mut self.last) {
-            return Err(Refusal::NoMemory);
+            return Err(StoreError::NoMemory);
         }
         self.last = Some((key, value));
         Ok(())
@@ -83,7 +83,7 @@ impl Pairs {
         payload: &[u8],
         log: &mut GateLog,
         disk: &mut D,
-    ) -> Result<(), Refusal>
+    ) -> Result<(), StoreError>
         requires { D.told ≡ true → (list : List (List ℕ)) × EachLog log.old list (D.contents disk.old) }
         ensures map { OnOk result (self.new ≡ insert self.old key value) }
         ensures same { OnErr result ((self.new ≡ self.old) × (log.new ≡ log.old)) }
@@ -93,12 +93,12 @@ impl Pairs {
         ensures crash { D.told ≡ true → (list : List (List ℕ)) (image : Option (List ℕ))
             → EachLog log.old list (D.contents disk.old) → MayLeave (D.contents disk.new) log.old.file image
             → HasList list image ⊎ HasList (list ++ payload.now ∷ []) image }
-        ensures known { OnErr result ((result ≡ Err Refusal.DiskFault) ⊎ ((result ≡ Err Refusal.NoMemory) × (disk.new ≡ disk.old))) }
+        ensures known { OnErr result ((result ≡ Err StoreError.DiskFault) ⊎ ((result ≡ Err StoreError.NoMemory) × (disk.new ≡ disk.old))) }
         ensures later { D.fault_count disk.old ≤ D.fault_count disk.new }
-        ensures fault { result ≡ Err Refusal.DiskFault → Rose (D.fault_count disk.old) (D.fault_count disk.new) }
+        ensures fault { result ≡ Err StoreError.DiskFault → Rose (D.fault_count disk.old) (D.fault_count disk.new) }
     {
         if !settle(&mut self.by_key, &mut self.last) {
-            return Err(Refusal::NoMemory);
+            return Err(StoreError::NoMemory);
         }
         log.append(disk, payload)?;
         self.last = Some((key, value));
@@ -108,7 +108,7 @@ impl Pairs {
 
 /// Moves the last pair to the others, and answers whether there was memory. The map that they make stays the same.
 fn settle(by_key: &mut BTreeMap<Word, Word>, last: &mut Option<(Word, Word)>) -> bool
-    ensures same { with_last last.new (from_entries {R = slice_cmp nat_cmp} by_key.new.entries) ≡ with_last last.old (from_entries {R = slice_cmp nat_cmp} by_key.old.entries) }
+    ensures same { with_last last.new (from_entries {R = key_cmp} by_key.new.entries) ≡ with_last last.old (from_entries {R = key_cmp} by_key.old.entries) }
     ensures settled { result ≡ true → last.new ≡ None }
 {
     let Some((key, value)) = last.take() else {

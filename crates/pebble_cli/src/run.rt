@@ -4,19 +4,22 @@ ghost use Rattle.pb_devices.specs.Counts.{Rose};
 ghost use Rattle.pebble_cli.specs.Lines.{first_fault};
 ghost use Rattle.pebble_cli.specs.Folder.{log_name, payloads_in, HasFrom};
 ghost use Rattle.pebble_cli.specs.Headline.{Headline, IsGood, IsSpoilt};
-ghost use Rattle.pebble_cli.specs.Machine.{State, mark_of, reply_to, state_after};
+ghost use Rattle.pb_machine.specs.States.{StoreState};
+ghost use Rattle.pebble_cli.specs.Steps.{as_line, step_after, step_reply};
 ghost use Rattle.pebble_cli.specs.Usage.{is_run};
-ghost use Rattle.pebble_cli.specs.StoreStates.{IsIn, Keeps, Finds, IsSetBy, is_down, map_in, ran_of};
+ghost use Rattle.pebble_cli.specs.StoreStates.{IsIn, Keeps, Finds, IsSetBy, TellsFault, map_in, ran_of};
 ghost use Rattle.pebble_cli.specs.Runs.{script as script_task, fault, usage, task_of, task_of_source, task_of_script, lines_due, has_damage, IsReadWhole, IsWhole, IsCutShort, IsBeforeLines, Ends, Prints, Causes, Comes};
 
-use crate::line::Line;
+use crate::lines::read_lines;
+use crate::mark::{mark_of, status_with};
 use crate::print::{fault_text, print_reply, say};
-use crate::reply::{Refusal, Reply};
-use crate::script::{ParseError, ReadError, parse, read_script};
-use crate::status::Status;
+use crate::script::{ReadError, read_script};
+use crate::step::Step;
 use crate::store::Store;
 use crate::usage::asks_to_run;
 use pb_devices::{Bucket, Disk, Sink, Source, Trace};
+use pb_reply::{Reply, Status};
+use pb_script::ParseError;
 use std::alloc::Global;
 
 /// The text for words that aren't the usage.
@@ -131,14 +134,14 @@ fn run_script<O: Sink, D: Disk>(
     ensures damaged { D.told ≡ true → has_damage trace.new.marks ≡ true → IsSpoilt (D.contents disk.old) }
     ensures untouched { IsBeforeLines result → disk.new ≡ disk.old }
 {
-    match parse(alloc, script) {
-        Ok(lines) => run_lines(alloc, lines, out, disk, trace),
+    match read_lines(alloc, script) {
+        Ok(steps) => run_steps(alloc, steps, out, disk, trace),
         Err(ParseError::Fault(number)) => say_fault(alloc, number, out),
         Err(ParseError::NoMemory) => Status::Memory,
     }
 }
 
-/// Prints the number of the first line that is off the grammar.
+/// Prints the number of the first line that is off the grammar or not built.
 fn say_fault<O: Sink>(alloc: Global, number: u64, out: &mut O) -> Status
     ensures ends { Ends (fault number) result [] }
     ensures prints { O.told ≡ true → Prints (fault number) result []
@@ -153,63 +156,63 @@ fn say_fault<O: Sink>(alloc: Global, number: u64, out: &mut O) -> Status
 }
 
 /// Runs the lines of a script in order.
-fn run_lines<O: Sink, D: Disk>(
+fn run_steps<O: Sink, D: Disk>(
     alloc: Global,
-    lines: Vec<Line>,
+    steps: Vec<Step>,
     out: &mut O,
     disk: &mut D,
     trace: &mut Trace,
 ) -> Status
     requires { trace.old.marks ≡ [] }
-    ensures comes { Comes (script_task lines.items) result trace.new.marks
-        (λ ran. O.told ≡ true → Prints (script_task lines.items) result ran
+    ensures comes { Comes (script_task (map as_line steps.items)) result trace.new.marks
+        (λ ran. O.told ≡ true → Prints (script_task (map as_line steps.items)) result ran
         (O.taken out.old) (O.taken out.new) (O.fault_count out.old) (O.fault_count out.new))
         (λ ran. D.told ≡ true → IsGood (D.contents disk.old)
-        → Headline (D.contents disk.old) (D.contents disk.new) lines.items ran) }
+        → Headline (D.contents disk.old) (D.contents disk.new) (map as_line steps.items) ran) }
     ensures status { IsWhole result ⊎ IsCutShort result }
     ensures causes { Causes result trace.new.marks (O.fault_count out.old) (O.fault_count out.new) }
     ensures device { result ≡ Status.Device → Rose (D.fault_count disk.old) (D.fault_count disk.new) }
     ensures damaged { D.told ≡ true → has_damage trace.new.marks ≡ true → IsSpoilt (D.contents disk.old) }
 {
-    if trace.reserve(lines.len() as u64).is_err() {
+    if trace.reserve(steps.len() as u64).is_err() {
         return Status::Memory;
     }
     let mut store = Store::Closed;
-    let mut text = String::new(alloc);
-    let mut status = Status::Done;
-    for line in lines {
-        let reply = run_line(&mut store, alloc, disk, line, trace);
-        if let Err(early) = print_reply(&reply, &mut text, out) {
+    let mut text = Vec::new(alloc);
+    let mut status = Status::Success;
+    for step in steps {
+        let reply = run_step(&mut store, alloc, disk, step, trace);
+        status = status_with(status, &reply);
+        if let Err(early) = print_reply(alloc, reply, &mut text, out) {
             return early;
         }
-        status = status.with(&reply);
     }
     status
 }
 
-/// Runs a line, and adds its mark to the trace: a reply that doesn't reach the sink has its mark.
-fn run_line<D: Disk>(
+/// Runs a step, and adds its mark to the trace: a reply that doesn't reach the sink has its mark.
+fn run_step<D: Disk>(
     store: &mut Store,
     alloc: Global,
     disk: &mut D,
-    line: Line,
+    step: Step,
     trace: &mut Trace,
 ) -> Reply
     requires kept { D.told ≡ true → Keeps store.old (D.contents disk.old) }
     requires spare { 1 ≤ trace.old.spare }
     ensures kept { D.told ≡ true → Keeps store.new (D.contents disk.new) }
-    ensures reply { (state : State) → IsIn store.old state → result ≡ reply_to state line (ran_of result store.new).mark }
-    ensures state { (state : State) → IsIn store.old state → IsIn store.new (state_after state line (ran_of result store.new)) }
-    ensures found { D.told ≡ true → Finds (payloads_in ((D.contents disk.old).seen log_name)) line result (map_in store.new) }
+    ensures reply { (state : StoreState) → IsIn store.old state → result ≡ step_reply state step (ran_of result store.new) }
+    ensures state { (state : StoreState) → IsIn store.old state → IsIn store.new (step_after state step (ran_of result store.new)) }
+    ensures found { D.told ≡ true → Finds (payloads_in ((D.contents disk.old).seen log_name)) step result (map_in store.new) }
     ensures crash { D.told ≡ true → (image : Option (List ℕ)) → MayLeave (D.contents disk.new) log_name image
-        → HasFrom (D.contents disk.old) image ⊎ IsSetBy store.old line image }
+        → HasFrom (D.contents disk.old) image ⊎ IsSetBy store.old step image }
     ensures later { D.fault_count disk.old ≤ D.fault_count disk.new }
-    ensures fault { result ≡ Reply.Refused Refusal.DiskFault → Rose (D.fault_count disk.old) (D.fault_count disk.new) }
+    ensures fault { TellsFault result → Rose (D.fault_count disk.old) (D.fault_count disk.new) }
     ensures marks { trace.new.marks ≡ trace.old.marks ++ (ran_of result store.new).mark ∷ [] }
     ensures spare { trace.new.spare + 1 ≡ trace.old.spare }
 {
-    let reply = store.line(alloc, disk, line);
-    trace.add(reply.mark(store.is_down()));
+    let reply = store.step(alloc, disk, step);
+    trace.add(mark_of(&reply, store.is_down()));
     reply
 }
 

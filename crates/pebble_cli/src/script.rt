@@ -1,9 +1,7 @@
 ghost use Rattle.std.specs.Prelude.{◌≡◌, ◌<◌, ◌≤◌, ◌+◌, ◌++◌, ◌∷◌, ◌⊎◌, ℕ, [], true, length, vec_len, IsOk, IfOk, IfErr, OnOk};
 ghost use Rattle.pb_devices.specs.Counts.{Rose};
-ghost use Rattle.pebble_cli.specs.Lines.{texts_of, first_fault, lines_of};
 ghost use Rattle.pebble_cli.specs.Runs.{max_script};
 
-use crate::line::{Line, cut, read_line};
 use pb_devices::{Failed, Source};
 use std::alloc::{AllocError, Global};
 
@@ -87,52 +85,4 @@ fn read_piece<I: Source>(
     let count = source.read(piece)?;
     script.extend_from_slice(&piece[..count])?;
     Ok(count)
-}
-
-/// Why a script isn't run.
-#[derive(Drop)]
-pub enum ParseError {
-    /// The line with this number is the first that is off the grammar, counted from 1.
-    Fault(u64),
-    NoMemory,
-}
-
-impl From<AllocError> for ParseError {
-    ghost use Rattle.pebble_cli.specs.declared.script.ParseError.TheVariants.{NoMemory as ParseNoMemory};
-
-    ghost from_gives = { λ _ e. e ≡ ParseNoMemory };
-
-    fn from(_: AllocError) -> ParseError {
-        ParseError::NoMemory
-    }
-}
-
-/// The lines of a script.
-pub fn parse(alloc: Global, script: &[u8]) -> Result<Vec<Line>, ParseError>
-    ensures ok { IfOk result (λ lines. (first_fault script.now ≡ None) × (lines.items ≡ lines_of script.now)) }
-    ensures fault { (number : ℕ) → result ≡ Err (ParseError.Fault number) → (place : ℕ) × (first_fault script.now ≡ Some place) × (number ≡ place + 1) }
-{
-    let mut lines = Vec::new(alloc);
-    let mut rest = script;
-    while !rest.is_empty() {
-        let (text, behind) = first_text(rest);
-        let Some(line) = read_line(alloc, text)? else {
-            return Err(ParseError::Fault(lines.len() as u64 + 1));
-        };
-        lines.push(line).map_err(AllocError::from)?;
-        rest = behind;
-    }
-    Ok(lines)
-}
-
-/// The first line of a script, without its end, and what stands behind.
-fn first_text(script: &[u8]) -> (&[u8], &[u8])
-    requires { 0 < length script.now }
-    ensures texts { texts_of script.now ≡ result.0.now ∷ texts_of result.1.now }
-    ensures shorter { length result.1.now < length script.now }
-{
-    match cut(script, b'\n') {
-        Some(parts) => parts,
-        None => (script, &script[script.len()..]),
-    }
 }

@@ -56,15 +56,6 @@ impl Word {
     {
         self.text.as_str()
     }
-
-    /// The same word once more.
-    pub fn copy(&self) -> Result<Word, AllocError>
-        ensures { IfOk result (λ word. word ≡ self.now) }
-    {
-        Ok(Word {
-            text: self.text.clone()?,
-        })
-    }
 }
 
 impl PartialEq for Word {

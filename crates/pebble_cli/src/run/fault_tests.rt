@@ -91,7 +91,7 @@ fn fail_a_call(
     let disk = MemDisk::new(alloc, failing(alloc, call, onward)?, pick);
     let (status, printed, mut disk) = over_disk(rt, alloc, SETS, disk)?;
     let count = accepted(&printed);
-    assert_eq!(rt; status == Status::Done, call > 24, "call {call}");
+    assert_eq!(rt; status == Status::Success, call > 24, "call {call}");
     assert_eq!(rt; count == 3, call > 24, "call {call}");
     disk.power();
     let disk = disk.again(Vec::new(alloc), pick);

@@ -16,7 +16,7 @@ use std::test::Fail;
 fn one_set(alloc: Global, disks: &mut [MemDisk]) -> Result<Status, AllocError>
     requires eight { length disks.old ≡ 8 }
     requires fresh { (a : DiskView) (others : List DiskView) → disks.old ≡ a ∷ others → a.slots ≡ empty }
-    ensures { IfOk result (λ status. status ≡ Status.Done → (b : DiskView) (others : List DiskView) → disks.new ≡ b ∷ others
+    ensures { IfOk result (λ status. status ≡ Status.Success → (b : DiskView) (others : List DiskView) → disks.new ≡ b ∷ others
         → (folder : Folder) → IsImage (held b) folder → StandsFor folder 1 one_pair) }
 {
     let words = [String::from_str(alloc, "run")?];
@@ -58,7 +58,7 @@ fn after_ok_each_image_stands_for_the_pair(rt: HostRuntime) -> Result<(), Fail> 
             new_disk(alloc, pick),
         ];
         let status = one_set(alloc, &mut disks)?;
-        assert_eq!(rt; status, Status::Done);
+        assert_eq!(rt; status, Status::Success);
     }
     Ok(())
 }

@@ -64,9 +64,9 @@ const FIRST: &[u8] = b"open A\nA set a 1\nA get a\n";
 #[test]
 fn scripts_get_their_replies(rt: HostRuntime) -> Result<(), Fail> {
     let rows: [(&[u8], &[u8], Status); 9] = [
-        (FIRST, b"opened 0\nok 1\nvalue 1\n", Status::Done),
-        (b"", b"", Status::Done),
-        (b"open A", b"opened 0\n", Status::Done),
+        (FIRST, b"opened 0\nok 1\nvalue 1\n", Status::Success),
+        (b"", b"", Status::Success),
+        (b"open A", b"opened 0\n", Status::Success),
         (
             b"open A\nA set a 1\nA set a 2\nA get a\nA get b\nopen A\n",
             b"opened 0\nok 1\nok 2\nvalue 2\nnone\nrefused 3 AlreadyOpen\n",
@@ -93,7 +93,7 @@ fn scripts_get_their_replies(rt: HostRuntime) -> Result<(), Fail> {
 #[test]
 fn memory_is_not_always_wanted(rt: HostRuntime) -> Result<(), Fail> {
     let got = run_over_memory(rt.alloc(), &["run"], FIRST, 0, 0)?;
-    assert_eq!(rt; got.status, Status::Done);
+    assert_eq!(rt; got.status, Status::Success);
     let marks = got.trace.marks();
     assert_eq!(rt; marks.len(), 3);
     assert_eq!(rt; marks[0].count, 0);
@@ -104,7 +104,7 @@ fn memory_is_not_always_wanted(rt: HostRuntime) -> Result<(), Fail> {
 
 #[test]
 fn words_of_1_to_48_bytes_are_words(rt: HostRuntime) -> Result<(), Fail> {
-    for (len, status) in [(1, Status::Done), (48, Status::Done), (49, Status::Script)] {
+    for (len, status) in [(1, Status::Success), (48, Status::Success), (49, Status::Script)] {
         let mut script = b"open A\nA set ".to_vec(rt.alloc())?;
         for _ in 0..len {
             script.push(b'k')?;

@@ -4,7 +4,7 @@ use Rattle.std.proofs.lemmas.Grind.{take_at_read}
 use Rattle.pebble_cli.specs.Folder.{Make}
 use Rattle.pebble_cli.proofs.SetFacts.{ReadTo, read_more, read_all, next_from}
 use Rattle.pebble_cli.proofs.StoreFacts.{refused_same}
-use Rattle.pebble_cli.specs.declared.reply.Refusal.TheVariants.{Damaged}
+use Rattle.pebble_cli.specs.declared.store_error.StoreError.TheVariants.{Damaged}
 use Rattle.pebble_cli.proofs.open_log.read_sets.Goals as goal
 
 pub loop-payload-preserved : goal.loop-payload-preserved

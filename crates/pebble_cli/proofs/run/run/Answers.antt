@@ -1,8 +1,8 @@
 use Rattle.std.proofs.Common.{◌≡◌, ◌∙◌, [], List, true, map, string_bytes, set, get_or, inl, refl, sym, ap, subst}
 use Rattle.std.proofs.lemmas.Bool.{cond-true, cond-false}
 use Rattle.pebble_cli.specs.Headline.{Headline, IsGood}
-use Rattle.pebble_cli.specs.Machine.{Ran}
-use Rattle.pebble_cli.specs.Replies.{usage_text}
+use Rattle.pb_machine.specs.Marks.{Ran}
+use Rattle.pebble_cli.specs.Texts.{usage_text}
 use Rattle.pebble_cli.specs.Usage.{is_run}
 use Rattle.pebble_cli.specs.Runs.{Task, usage, IsWhole, task_of, task_of_source, lines_due, Prints, Comes}
 use Rattle.pebble_cli.proofs.Crash.{nothing_ran}
@@ -21,7 +21,7 @@ returns-then-not-asks-clause-comes g c = λ told a b others old new.
     (record {
       ran = [];
       marked = c.requires.empty;
-      ends = record { due = inl c.say.ensures.status; each_mark = tt; every_line = λ whole. absurd (subst IsWhole c.say.ensures.status whole) };
+      ends = record { due = inl c.say.ensures.status; each_mark = tt; named = tt; every_line = λ whole. absurd (subst IsWhole c.say.ensures.status whole) };
       printed = λ told. text_prints usage c.say.result usage_text (g.O.Sink.taken c.args.out.now) (g.O.Sink.taken c.say.new.out) (g.O.Sink.fault_count c.args.out.now) (g.O.Sink.fault_count c.say.new.out)
           (rw c.say.ensures.status tt) refl (c.say.ensures.text told);
       left = λ told good.

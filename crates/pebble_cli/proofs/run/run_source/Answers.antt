@@ -1,10 +1,10 @@
 use Rattle.std.proofs.Common.{◌≡◌, ◌≤◌, ◌∙◌, [], ℕ, List, true, nat_lt, length, inl, Err, refl, ap, subst}
 use Rattle.pebble_cli.specs.Headline.{Headline, IsGood}
 use Rattle.pebble_cli.specs.Lines.{first_fault}
-use Rattle.pebble_cli.specs.Machine.{Ran}
+use Rattle.pb_machine.specs.Marks.{Ran}
 use Rattle.pebble_cli.specs.Runs.{Task, too_long, IsWhole, max_script, task_of_script, task_of_source, lines_due, Prints, Comes}
 use Rattle.pebble_cli.proofs.Crash.{nothing_ran}
-use Rattle.pebble_cli.specs.Replies.{too_long_text}
+use Rattle.pebble_cli.specs.Texts.{too_long_text}
 use Rattle.pebble_cli.proofs.Progress.{text_prints}
 use Rattle.pebble_cli.proofs.Early.{task_short, task_long, memory_of_source, memory_prints, read_of_source, read_prints}
 use Rattle.pebble_cli.proofs.run.run_source.Goals as goal
@@ -34,7 +34,7 @@ returns-in-Err-TooLong-clause-comes g c = λ told.
     (record {
       ran = [];
       marked = c.requires;
-      ends = record { due = inl c.say.ensures.status; each_mark = tt; every_line = λ whole. absurd (subst IsWhole c.say.ensures.status whole) };
+      ends = record { due = inl c.say.ensures.status; each_mark = tt; named = tt; every_line = λ whole. absurd (subst IsWhole c.say.ensures.status whole) };
       printed = λ told. text_prints too_long c.say.result too_long_text (g.O.Sink.taken c.args.out.now) (g.O.Sink.taken c.say.new.out) (g.O.Sink.fault_count c.args.out.now) (g.O.Sink.fault_count c.say.new.out)
           (rw c.say.ensures.status tt) refl (c.say.ensures.text told);
       left = λ told good. nothing_ran entry [] (λ name. g.met.D.Disk.seen_may_be_left c.args.disk.now name told) good;

@@ -2,7 +2,7 @@ use Rattle.std.proofs.Common.{Err, refl, ◌∙◌, sym, ap, subst, ℕ, List}
 use Rattle.pb_devices.proofs.Images.{stays_image}
 use Rattle.pebble_cli.specs.Folder.{log_name, payloads_in, Make}
 use Rattle.pebble_cli.proofs.StoreFacts.{refused_same}
-use Rattle.pebble_cli.specs.declared.reply.Refusal.TheVariants.{Damaged}
+use Rattle.pebble_cli.specs.declared.store_error.StoreError.TheVariants.{Damaged}
 use Rattle.pebble_cli.proofs.opened.Opened.open.Goals as goal
 
 pub returns-in_err-barrier-clause-crash : goal.returns-in_err-barrier-clause-crash

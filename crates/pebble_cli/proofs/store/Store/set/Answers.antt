@@ -1,8 +1,8 @@
 use Rattle.std.proofs.Common.{ℕ, ◌+◌, ◌⊎◌, ◌∙◌, Err, ap, inr, sym, subst}
-use Rattle.pebble_cli.specs.Store.{Map}
+use Rattle.pb_keys.specs.Map.{Map}
 use Rattle.pebble_cli.specs.Folder.{payloads_in, HasFrom, Make}
 use Rattle.pebble_cli.specs.StoreStates.{IsSetBy}
-use Rattle.pebble_cli.specs.declared.line.Line.TheVariants.{Set}
+use Rattle.pebble_cli.specs.declared.step.Step.TheVariants.{Set}
 use Rattle.pebble_cli.specs.declared.store.Store.{Store}
 use Rattle.pebble_cli.proofs.LoggedFacts.{open_image}
 use Rattle.pebble_cli.proofs.store.Store.set.Goals as goal

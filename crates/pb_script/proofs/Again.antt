@@ -1,23 +1,22 @@
 -- What a printed word says, and which bytes it has.
-use Rattle.std.proofs.Common.{◌≡◌, ℕ, ◌+◌, ◌*◌, ◌-◌, ◌/◌, ◌%◌, ◌<◌, ◌≤◌, Bool, true, false, cond, ◌&&◌, nat_le, nat_lt, List, [], ◌∷◌, ◌++◌, length, get_or, Option, Some, None, refl, sym, ap, ◌∙◌, subst, arith, inl, inr, All}
-use Rattle.std.specs.Prelude.{IfSome, IsTrue, codes, ◌==◌, if◌then◌else◌}
+use Rattle.std.proofs.Common.{◌≡◌, ℕ, ◌+◌, ◌*◌, ◌/◌, ◌%◌, ◌<◌, ◌≤◌, Bool, true, false, cond, ◌&&◌, nat_le, nat_lt, List, [], ◌∷◌, ◌++◌, length, Option, Some, None, refl, sym, ap, ◌∙◌, arith, inl, inr}
+use Rattle.std.specs.Prelude.{IfSome, codes, ◌==◌}
 use Rattle.std.specs.Char.{digit_value, digit_char}
 use Rattle.std.specs.List.{AllByRecursion, flat_map, list_all}
 use Rattle.std.specs.Str.{bytes_eq}
 use Rattle.std.proofs.lemmas.Bool.{cases_Bool, cond-true, cond-false, and_left}
 use Rattle.std.proofs.lemmas.Bool.Decides.{nat_tests}
 use Rattle.std.proofs.lemmas.List.Folds.{list_all-append}
-use Rattle.std.proofs.lemmas.List.Sums.{AllPass-from_list_all, list_all-from_AllPass}
+use Rattle.std.proofs.lemmas.List.Sums.{list_all-from_AllPass}
 use Rattle.std.proofs.lemmas.Str.{digit_value-digit_char}
 use Rattle.pb_names.specs.Grammar.{IsName, IsNameByte}
 use Rattle.pb_names.specs.Identity.{IsStore}
 use Rattle.pb_reply.specs.Printed.{is_plain, printed_byte, word}
-use Rattle.pb_script.specs.Answers.{◌>>=◌, ◌>>◌}
-use Rattle.pb_script.specs.Strings.{hex_pair, with_byte, bytes_of, string_of, is_name, name_of, store_of, level_of}
-use Rattle.pb_script.specs.Fields.{word_at, string_at, name_at, store_at, level_at, pair_at, behind, at_end, labelled_at, names_of, some_names_of}
-use Rattle.pb_script.specs.Form.{IsByte, IsString, AreTables}
+use Rattle.pb_script.specs.Answers.{◌>>=◌}
+use Rattle.pb_script.specs.Strings.{hex_pair, with_byte, bytes_of, string_of, name_of, store_of, level_of}
+use Rattle.pb_script.specs.Fields.{word_at, string_at, name_at, store_at, level_at, pair_at, labelled_at, names_of, some_names_of}
+use Rattle.pb_script.specs.Form.{IsString, AreTables}
 use Rattle.pb_script.specs.Spelling.{letter, digit, labelled}
-use Rattle.pb_script.proofs.Bools.{both}
 use Rattle.pb_script.proofs.Coded.{first_coded, first_plain}
 use Rattle.pb_script.proofs.Names.{is_name_of}
 

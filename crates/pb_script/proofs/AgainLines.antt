@@ -1,21 +1,17 @@
 -- What the words of a printed command, line and line of a block say.
-use Rattle.std.proofs.Common.{◌≡◌, ℕ, ◌+◌, ◌<◌, ◌≤◌, Bool, true, false, cond, ◌&&◌, List, [], ◌∷◌, ◌++◌, length, Option, Some, None, refl, sym, ap, ◌∙◌, subst, arith, inl, inr}
-use Rattle.std.specs.Prelude.{IfSome, IsTrue, codes, ◌==◌, if◌then◌else◌}
-use Rattle.std.specs.List.{AllByRecursion}
-use Rattle.std.specs.Str.{bytes_eq}
-use Rattle.std.proofs.lemmas.Bool.{cond-true, cond-false}
-use Rattle.std.proofs.lemmas.Bool.Decides.{nat_tests}
+use Rattle.std.proofs.Common.{◌≡◌, ℕ, ◌+◌, Bool, true, false, cond, ◌&&◌, List, [], ◌∷◌, ◌++◌, Option, Some, refl, ◌∙◌}
+use Rattle.std.specs.Prelude.{codes, ◌==◌}
+use Rattle.std.proofs.lemmas.Bool.{cond-true}
 use Rattle.pb_names.specs.Grammar.{IsName}
 use Rattle.pb_names.specs.Identity.{IsStore}
 use Rattle.pb_reply.specs.Printed.{word}
-use Rattle.pb_script.specs.Answers.{◌>>=◌, ◌>>◌}
-use Rattle.pb_script.specs.Strings.{store_of}
-use Rattle.pb_script.specs.Fields.{word_at, string_at, name_at, store_at, level_at, pair_at, behind, at_end, labelled_at, some_names_of}
-use Rattle.pb_script.specs.Commands.{set_of, del_of, del_range_of, get_of, scan_of, flush_of, compact_of, release_of, ingest_of, excise_of, ingest_excise_of, external_of, lend_of, receive_of, pin_of, sharing_named, tables_named, command_named, command_of, is_started}
+use Rattle.pb_script.specs.Answers.{◌>>=◌}
+use Rattle.pb_script.specs.Fields.{word_at, behind, at_end}
+use Rattle.pb_script.specs.Commands.{set_of, del_of, del_range_of, get_of, scan_of, flush_of, compact_of, release_of, ingest_of, excise_of, ingest_excise_of, external_of, lend_of, receive_of, pin_of, sharing_named, tables_named, command_named, command_of}
 use Rattle.pb_script.specs.Lines.{store_alone, name_alone, open_of, close_of, stop_of, levels_of, lane_of, turn_of, start_of, whole_named, table_of, export_of, drop_of, get_at_of, unpin_of, objects_of, calls_of, family_line, line_named}
 use Rattle.pb_script.specs.TableLines.{table_set_of, table_del_of, table_del_range_of, table_line_named}
-use Rattle.pb_script.specs.Form.{IsString, AreTables, IsCommand, IsTableLine, IsLine}
-use Rattle.pb_script.specs.Spelling.{letter, digit, labelled, command_words, table_line_words, lane_words, line_words}
+use Rattle.pb_script.specs.Form.{IsCommand, IsTableLine, IsLine}
+use Rattle.pb_script.specs.Spelling.{letter, labelled, command_words, table_line_words, lane_words, line_words}
 use Rattle.pb_script.specs.declared.command.Command.{Command}
 use Rattle.pb_script.specs.declared.command.Command.TheVariants as command
 use Rattle.pb_script.specs.declared.line.Lane.{Lane}
@@ -24,7 +20,7 @@ use Rattle.pb_script.specs.declared.line.Line.{Line}
 use Rattle.pb_script.specs.declared.line.Line.TheVariants as line
 use Rattle.pb_script.specs.declared.table_line.TableLine.{TableLine}
 use Rattle.pb_script.specs.declared.table_line.TableLine.TheVariants as table
-use Rattle.pb_script.proofs.Again.{word_at-again, string_at-again, pair_at-again, name_at-again, store_again, store_at-again, level_at-again, some_names_again, both_labels, last_label}
+use Rattle.pb_script.proofs.Again.{string_at-again, pair_at-again, name_at-again, store_again, store_at-again, level_at-again, some_names_again, both_labels, last_label}
 
 command_again : (c : Command) → IsCommand c → command_of (command_words c) ≡ Some c
 unfolding command_of word_at command_named tables_named sharing_named set_of del_of del_range_of get_of scan_of flush_of compact_of release_of ingest_of excise_of ingest_excise_of external_of lend_of receive_of pin_of behind at_end

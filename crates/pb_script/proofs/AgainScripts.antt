@@ -1,21 +1,19 @@
 -- A printed script is read as its lines.
-use Rattle.std.proofs.Common.{◌≡◌, ℕ, ◌+◌, Bool, true, false, cond, ◌&&◌, List, [], ◌∷◌, ◌++◌, length, Option, Some, None, refl, sym, ap, ◌∙◌, subst, arith, append_assoc}
-use Rattle.std.specs.Prelude.{IfSome, IsTrue, codes, ◌==◌, not, nat_lt}
+use Rattle.std.proofs.Common.{◌≡◌, ℕ, ◌+◌, Bool, true, false, ◌&&◌, List, [], ◌∷◌, ◌++◌, length, Option, Some, None, refl, sym, ap, ◌∙◌, arith, append_assoc}
+use Rattle.std.specs.Prelude.{IfSome, codes, ◌==◌, not, nat_lt}
 use Rattle.std.specs.List.{AllByRecursion, flat_map, list_all}
-use Rattle.std.proofs.lemmas.Bool.{cond-true, cond-false}
+use Rattle.std.proofs.lemmas.Bool.{cond-false}
 use Rattle.std.proofs.lemmas.Bool.Decides.{nat_tests}
 use Rattle.std.proofs.lemmas.List.{append-nil}
 use Rattle.pb_names.specs.Grammar.{IsName}
-use Rattle.pb_names.specs.Identity.{IsStore}
 use Rattle.pb_reply.specs.Printed.{word}
 use Rattle.pb_script.specs.Answers.{◌>>=◌}
 use Rattle.pb_script.specs.Texts.{texts_of}
-use Rattle.pb_script.specs.Words.{words_of, begins_with_hash, is_skipped}
 use Rattle.pb_script.specs.Lines.{line_of}
 use Rattle.pb_script.specs.TableLines.{table_line_of, is_end, are_end}
-use Rattle.pb_script.specs.Script.{ScriptRead, Lines, Fault, after_line, said, step, ended, behind_text, at_last, read_texts, lines_of}
-use Rattle.pb_script.specs.Form.{IsString, AreTables, IsCommand, IsTableLine, IsLine}
-use Rattle.pb_script.specs.Spelling.{letter, digit, labelled, command_words, table_line_words, lane_words, line_words, spelled_words, with_end, spelled_table_line, spelled_block, spelled_line, spelled_script}
+use Rattle.pb_script.specs.Script.{ScriptRead, Lines, Fault, after_line, said, step, ended, behind_text, read_texts, lines_of}
+use Rattle.pb_script.specs.Form.{IsString, IsCommand, IsTableLine, IsLine}
+use Rattle.pb_script.specs.Spelling.{labelled, command_words, table_line_words, lane_words, line_words, spelled_words, with_end, spelled_table_line, spelled_block, spelled_line, spelled_script}
 use Rattle.pb_script.specs.declared.command.Command.{Command}
 use Rattle.pb_script.specs.declared.command.Command.TheVariants as command
 use Rattle.pb_script.specs.declared.line.Lane.{Lane}

@@ -1,16 +1,15 @@
 -- The words and the texts of what is printed.
-use Rattle.std.proofs.Common.{◌≡◌, ℕ, ◌+◌, ◌-◌, ◌<◌, ◌≤◌, Bool, true, false, ◌&&◌, ◌||◌, nat_le, nat_lt, List, [], ◌∷◌, ◌++◌, length, get_or, Option, Some, None, refl, sym, ap, ◌∙◌, subst, arith, All, append_assoc}
-use Rattle.std.specs.Prelude.{codes, ◌==◌, if◌then◌else◌, not, slice_index}
-use Rattle.std.specs.Io.BufRead.{strip_last, ends_with_byte}
-use Rattle.std.specs.List.{AllByRecursion, list_all, slice_split, filter}
+use Rattle.std.proofs.Common.{◌≡◌, ℕ, ◌-◌, Bool, true, false, ◌&&◌, ◌||◌, nat_le, nat_lt, List, [], ◌∷◌, ◌++◌, length, refl, ap, ◌∙◌, arith, All, append_assoc}
+use Rattle.std.specs.Prelude.{◌==◌, not}
+use Rattle.std.specs.Io.BufRead.{ends_with_byte}
+use Rattle.std.specs.List.{AllByRecursion, list_all}
 use Rattle.std.proofs.lemmas.Bool.{cond-true, cond-false, and_right}
 use Rattle.std.proofs.lemmas.Bool.Decides.{nat_tests}
-use Rattle.std.proofs.lemmas.List.{append-nil}
 use Rattle.std.proofs.lemmas.List.Folds.{list_all-append}
 use Rattle.std.proofs.lemmas.List.Splits.{slice_split_at, slice_split_none}
 use Rattle.std.proofs.lemmas.List.Sums.{AllPass-from_list_all}
 use Rattle.pb_script.specs.Texts.{texts_of}
-use Rattle.pb_script.specs.Words.{has_bytes, with_part, words_of, begins_with_hash, has_no_word, is_skipped}
+use Rattle.pb_script.specs.Words.{has_bytes, words_of, begins_with_hash, has_no_word, is_skipped}
 use Rattle.pb_script.specs.Spelling.{spelled_words, with_end}
 use Rattle.pb_script.proofs.Again.{is_graphic, IsWord}
 use Rattle.pb_script.proofs.Bools.{both}

@@ -1,5 +1,5 @@
 -- A word that spells its bytes one by one.
-use Rattle.std.proofs.Common.{◌≡◌, ℕ, ◌-◌, take, inl, inr, ◌⊎◌, subst, ◌<◌, ◌≤◌, Bool, true, false, cond, ◌==◌, ◌&&◌, not, nat_le, if◌then◌else◌, List, [], ◌∷◌, ◌++◌, length, get_or, drop, Option, Some, None, refl, sym, ap, ◌∙◌, append_assoc, arith, eq-eqb}
+use Rattle.std.proofs.Common.{◌≡◌, ℕ, ◌-◌, take, inl, inr, ◌⊎◌, ◌<◌, ◌≤◌, true, false, ◌==◌, List, [], ◌∷◌, ◌++◌, length, get_or, drop, Option, Some, None, refl, sym, ap, ◌∙◌, append_assoc, arith, eq-eqb}
 use Rattle.std.specs.List.{list_all}
 use Rattle.std.specs.Str.{bytes_eq}
 use Rattle.std.specs.Prelude.{codes}
@@ -7,9 +7,8 @@ use Rattle.std.proofs.lemmas.Bool.{cond-true, cond-false}
 use Rattle.std.proofs.lemmas.List.{append-nil, length-drop}
 use Rattle.std.proofs.Math.Seq.{take-length}
 use Rattle.std.proofs.lemmas.Bool.Decides.{nat_tests}
-use Rattle.std.proofs.lemmas.Grind.{common_steps}
 use Rattle.pb_reply.specs.Printed.{is_plain}
-use Rattle.pb_script.specs.Answers.{◌>>=◌, Fails}
+use Rattle.pb_script.specs.Answers.{Fails}
 use Rattle.pb_script.specs.declared.fault.WordFault.{WordFault}
 use Rattle.pb_script.specs.declared.fault.WordFault.TheVariants.{OffGrammar, NoMemory}
 use Rattle.pb_script.specs.Strings.{plain, hex_pair, with_byte, bytes_of, string_of}

@@ -1,13 +1,12 @@
 -- The definitions, computed on worked examples.
 use Rattle.std.proofs.Common.{◌≡◌, [], ◌∷◌, ◌++◌, refl, Some, None}
 use Rattle.std.specs.Prelude.{codes}
-use Rattle.pb_script.specs.Answers.{◌>>=◌, ◌>>◌}
 use Rattle.pb_script.specs.Strings.{bytes_of, string_of}
-use Rattle.pb_script.specs.Fields.{word_at, string_at, name_at, store_at, level_at, pair_at, behind, at_end, labelled_at, names_of, some_names_of}
-use Rattle.pb_script.specs.Commands.{set_of, del_of, get_of, compact_of, ingest_of, external_of, command_of, command_named, tables_named, sharing_named}
+use Rattle.pb_script.specs.Fields.{word_at, string_at, name_at, store_at, level_at, pair_at, behind, at_end, labelled_at}
+use Rattle.pb_script.specs.Commands.{set_of, get_of, compact_of, external_of, command_of, command_named, tables_named, sharing_named}
 use Rattle.pb_script.specs.Lines.{store_alone, name_alone, open_of, turn_of, lane_of, start_of, whole_named, table_of, family_line, line_named, line_of}
 use Rattle.pb_script.specs.TableLines.{table_set_of, table_line_named, table_line_of, is_end}
-use Rattle.pb_script.specs.Script.{ScriptRead, Lines, Fault, said, step, read_texts, lines_of}
+use Rattle.pb_script.specs.Script.{Lines, Fault, said, step, read_texts, lines_of}
 use Rattle.pb_script.specs.Texts.{texts_of}
 use Rattle.pb_script.specs.Words.{words_of}
 use Rattle.pb_script.specs.declared.command.Command.TheVariants as command

@@ -1,6 +1,6 @@
 -- Each line that is read is in form.
-use Rattle.std.proofs.Common.{◌≡◌, ℕ, ◌+◌, ◌*◌, ◌-◌, ◌<◌, ◌≤◌, Bool, true, false, cond, ◌&&◌, nat_le, nat_lt, List, [], ◌∷◌, ◌++◌, length, take, drop, Option, Some, None, refl, sym, ap, ◌∙◌, subst, arith}
-use Rattle.std.specs.Prelude.{IfSome, IsTrue, codes, ◌==◌, if◌then◌else◌}
+use Rattle.std.proofs.Common.{◌≡◌, ℕ, ◌+◌, ◌*◌, ◌-◌, ◌<◌, ◌≤◌, Bool, true, false, cond, ◌&&◌, nat_le, nat_lt, List, [], ◌∷◌, length, take, drop, Option, Some, None, refl, arith}
+use Rattle.std.specs.Prelude.{IfSome, ◌==◌, if◌then◌else◌}
 use Rattle.std.specs.Char.{digit_value}
 use Rattle.std.specs.List.{AllByRecursion}
 use Rattle.std.specs.Str.{bytes_eq}
@@ -10,7 +10,7 @@ use Rattle.pb_names.specs.Identity.{IsStore}
 use Rattle.pb_reply.specs.Printed.{is_plain}
 use Rattle.pb_script.specs.Answers.{◌>>=◌, ◌>>◌}
 use Rattle.pb_script.specs.Strings.{hex_pair, plain, with_byte, bytes_of, string_of, is_name, name_of, store_of, level_of}
-use Rattle.pb_script.specs.Fields.{Field, word_at, string_at, name_at, store_at, level_at, pair_at, behind, at_end, labelled_at, names_of, some_names_of}
+use Rattle.pb_script.specs.Fields.{word_at, string_at, name_at, store_at, level_at, pair_at, labelled_at, names_of, some_names_of}
 use Rattle.pb_script.specs.Form.{IsByte, IsString}
 use Rattle.pb_script.proofs.Names.{name_from_test}
 

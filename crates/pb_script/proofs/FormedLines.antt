@@ -1,11 +1,9 @@
 -- Each command, line and line of a block that is read is in form.
-use Rattle.std.proofs.Common.{◌≡◌, ℕ, ◌<◌, ◌≤◌, Bool, true, false, cond, List, [], ◌∷◌, ◌++◌, length, Option, Some, None, refl, sym, ap, ◌∙◌, subst}
-use Rattle.std.specs.Prelude.{IfSome, IsTrue, codes, if◌then◌else◌}
-use Rattle.std.specs.List.{AllByRecursion}
+use Rattle.std.proofs.Common.{ℕ, ◌≤◌, List}
+use Rattle.std.specs.Prelude.{IfSome, codes}
 use Rattle.std.specs.Str.{bytes_eq}
 use Rattle.pb_names.specs.Grammar.{IsName}
 use Rattle.pb_names.specs.Identity.{IsStore}
-use Rattle.pb_script.specs.Answers.{◌>>=◌, ◌>>◌}
 use Rattle.pb_script.specs.Words.{words_of}
 use Rattle.pb_script.specs.Strings.{store_of}
 use Rattle.pb_script.specs.Fields.{word_at, string_at, name_at, store_at, level_at, pair_at, behind, at_end, labelled_at, some_names_of}
@@ -13,10 +11,7 @@ use Rattle.pb_script.specs.Commands.{set_of, del_of, del_range_of, get_of, scan_
 use Rattle.pb_script.specs.Lines.{store_alone, name_alone, open_of, close_of, stop_of, levels_of, lane_of, turn_of, start_of, whole_named, table_of, export_of, drop_of, get_at_of, unpin_of, objects_of, calls_of, family_line, line_named, line_of}
 use Rattle.pb_script.specs.TableLines.{table_set_of, table_del_of, table_del_range_of, table_line_named, table_line_of}
 use Rattle.pb_script.specs.Form.{IsString, AreTables, IsCommand, IsTableLine, IsLine}
-use Rattle.pb_script.specs.declared.command.Command.{Command}
-use Rattle.pb_script.specs.declared.line.Line.{Line}
-use Rattle.pb_script.specs.declared.line.Line.TheVariants.{Start, Turn}
-use Rattle.pb_script.specs.declared.table_line.TableLine.{TableLine}
+use Rattle.pb_script.specs.declared.line.Line.TheVariants.{Start}
 use Rattle.pb_script.proofs.Formed.{bind_if, any_if, then_if, cond_if, test_if, store_formed, string_in, name_in, store_in, level_in, pair_in, labelled_in, some_names_in}
 
 abbrev Strings : (List ℕ × List ℕ) × List (List ℕ) → Type 0

@@ -1,14 +1,13 @@
 -- Each line of a script without a fault is in form.
-use Rattle.std.proofs.Common.{◌≡◌, ℕ, Bool, true, false, List, [], ◌∷◌, ◌++◌, Option, Some, None, refl, sym, ap, ◌∙◌, subst}
-use Rattle.std.specs.Prelude.{IfSome, IsTrue}
+use Rattle.std.proofs.Common.{◌≡◌, ℕ, List, [], ◌∷◌, ◌++◌, Option, Some, None, subst}
+use Rattle.std.specs.Prelude.{IfSome}
 use Rattle.std.specs.List.{AllByRecursion}
 use Rattle.pb_names.specs.Grammar.{IsName}
-use Rattle.pb_script.specs.Answers.{◌>>=◌}
 use Rattle.pb_script.specs.Texts.{texts_of}
 use Rattle.pb_script.specs.Words.{is_skipped}
 use Rattle.pb_script.specs.Lines.{line_of}
 use Rattle.pb_script.specs.TableLines.{table_line_of, is_end}
-use Rattle.pb_script.specs.Script.{ScriptRead, Lines, Fault, after_line, said, step, ended, behind_text, at_last, read_texts, lines_of}
+use Rattle.pb_script.specs.Script.{ScriptRead, Lines, Fault, after_line, said, step, behind_text, at_last, read_texts, lines_of}
 use Rattle.pb_script.specs.Form.{IsTableLine, IsLine}
 use Rattle.pb_script.specs.declared.line.Line.{Line}
 use Rattle.pb_script.specs.declared.line.Line.TheVariants.{Open, Close, Stop, Turn, Levels, Whole, Start, Table, Export, DropHandle, GetAt, Unpin, Objects, Calls}

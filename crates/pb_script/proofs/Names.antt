@@ -1,11 +1,10 @@
 -- The test of a name says what a name is.
-use Rattle.std.proofs.Common.{◌≡◌, ℕ, ◌≤◌, Bool, true, false, ◌||◌, ◌&&◌, ◌==◌, nat_le, List, [], ◌∷◌, length, refl, inl, inr, All, IsTrue, ◌↔◌, ◌⊎◌, arith, rules, tests}
-use Rattle.std.specs.List.{list_all}
+use Rattle.std.proofs.Common.{◌≡◌, ℕ, ◌≤◌, Bool, true, ◌&&◌, nat_le, List, length, IsTrue, ◌↔◌, arith}
 use Rattle.std.proofs.lemmas.Bool.Decides.{nat_tests}
 use Rattle.std.proofs.lemmas.List.Sums.{AllPass-from_list_all, list_all-from_AllPass}
 use Rattle.pb_names.specs.Grammar.{IsName, IsNameByte}
 use Rattle.pb_script.specs.Strings.{is_name_byte, is_name}
-use Rattle.pb_script.proofs.Bools.{both, same_tests}
+use Rattle.pb_script.proofs.Bools.{same_tests}
 
 byte_of : (byte : ℕ) → IsNameByte byte → is_name_byte byte ≡ true
 byte_of byte is = grind (arith, nat_tests)

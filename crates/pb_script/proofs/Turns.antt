@@ -1,10 +1,10 @@
 -- Names and lines, read one after the other.
-use Rattle.std.proofs.Common.{◌≡◌, ℕ, zero, suc, ◌+◌, ◌-◌, ◌≤◌, length, List, [], ◌∷◌, ◌++◌, Option, Some, None, refl, sym, ap, ◌∙◌, append_assoc, add_assoc, arith}
+use Rattle.std.proofs.Common.{◌≡◌, ℕ, ◌+◌, ◌-◌, ◌≤◌, List, [], ◌∷◌, ◌++◌, Option, Some, None, refl, sym, ap, ◌∙◌, append_assoc, arith}
 use Rattle.std.proofs.lemmas.List.{append-nil}
 use Rattle.pb_script.specs.Answers.{◌>>=◌}
 use Rattle.pb_script.specs.Fields.{names_of}
 use Rattle.pb_script.specs.Strings.{name_of}
-use Rattle.pb_script.specs.Script.{ScriptRead, Lines, Fault, ended, behind_text, read_texts, step, at_last, lines_of}
+use Rattle.pb_script.specs.Script.{ScriptRead, Lines, Fault, ended, behind_text, read_texts, step, lines_of}
 use Rattle.pb_script.specs.Texts.{texts_of}
 use Rattle.pb_script.specs.declared.line.Line.{Line}
 use Rattle.pb_script.specs.declared.table_line.TableLine.{TableLine}

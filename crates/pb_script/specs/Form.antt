@@ -1,5 +1,5 @@
 -- What every line that is read keeps to.
-use Rattle.std.specs.Prelude.{ℕ, ◌≤◌, ◌<◌, List, [], ◌∷◌, length, Option, Some, None, IfSome, IsTrue}
+use Rattle.std.specs.Prelude.{ℕ, ◌≤◌, ◌<◌, List, length, IfSome, IsTrue}
 use Rattle.std.specs.List.{AllByRecursion}
 use Rattle.pb_names.specs.Grammar.{IsName}
 use Rattle.pb_names.specs.Identity.{IsStore}

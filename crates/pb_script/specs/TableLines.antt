@@ -1,9 +1,9 @@
 -- The lines of a table's block, by their words.
-use Rattle.std.specs.Prelude.{ℕ, Bool, true, false, if◌then◌else◌, List, [], ◌∷◌, Option, Some, None, codes, is_some}
+use Rattle.std.specs.Prelude.{ℕ, Bool, false, if◌then◌else◌, List, [], ◌∷◌, Option, Some, None, codes}
 use Rattle.std.specs.Str.{bytes_eq}
 use Rattle.pb_script.specs.Answers.{◌>>=◌, ◌>>◌}
 use Rattle.pb_script.specs.Words.{words_of}
-use Rattle.pb_script.specs.Fields.{word_at, string_at, pair_at, behind, at_end}
+use Rattle.pb_script.specs.Fields.{word_at, string_at, pair_at, at_end}
 use Rattle.pb_script.specs.declared.table_line.TableLine.{TableLine}
 use Rattle.pb_script.specs.declared.table_line.TableLine.TheVariants.{Set, Del, DelRange}
 

@@ -1,5 +1,3 @@
-use Rattle.std.proofs.Common.{sym, ap, ◌∙◌, ◌∷◌}
-use Rattle.pb_script.specs.Texts.{texts_of}
 use Rattle.pb_script.proofs.Parts.{texts_cut}
 use Rattle.pb_script.proofs.script.first_text.Goals as goal
 

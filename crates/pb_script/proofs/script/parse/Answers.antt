@@ -1,11 +1,11 @@
-use Rattle.std.proofs.Common.{◌≡◌, ℕ, List, [], Result, Err, sym, ap, ◌∙◌, arith}
+use Rattle.std.proofs.Common.{◌≡◌, ℕ, Result, Err, ap, ◌∙◌, arith}
 use Rattle.std.proofs.lemmas.Bool.Decides.{nat_tests}
 use Rattle.std.proofs.lemmas.List.{nil_from_length}
 use Rattle.std.proofs.lemmas.Result.{err_from_is_err_and}
 use Rattle.pb_script.specs.Script.{Fault, lines_of}
 use Rattle.pb_script.specs.declared.fault.ParseError.{ParseError}
 use Rattle.pb_script.specs.declared.fault.ParseError.TheVariants.{Fault as FaultAt}
-use Rattle.pb_script.proofs.Turns.{Reads, begins, next_read, fault_read, between_read, within_read}
+use Rattle.pb_script.proofs.Turns.{begins, next_read, fault_read, between_read, within_read}
 use Rattle.pb_script.proofs.script.parse.Goals as goal
 
 pub loop-rest-init : goal.loop-rest-init

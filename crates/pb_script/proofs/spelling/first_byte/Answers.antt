@@ -1,4 +1,4 @@
-use Rattle.std.proofs.Common.{sym, ◌∙◌, arith}
+use Rattle.std.proofs.Common.{sym, ◌∙◌}
 use Rattle.std.proofs.lemmas.Result.{err_from_is_err_and}
 use Rattle.pb_script.proofs.Coded.{coded_ok, plain_ok, coded_err, off_err}
 use Rattle.pb_script.proofs.spelling.first_byte.Goals as goal

@@ -1,0 +1,9 @@
+pub mod Bits
+pub mod CommandLaws
+pub mod Covering
+pub mod IndexLaws
+pub mod Joins
+pub mod KeptLaws
+pub mod Looking
+pub mod Placing
+pub mod SearchLaws

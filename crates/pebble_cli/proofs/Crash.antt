@@ -263,9 +263,10 @@ safe_step entry old new lines rest ran state before after step reply safe is_in 
     record {
       finds = λ more finds.
           subst (λ (all : List Ran). FindsHistory entry start lines all) (sym (append_assoc ran (one ∷ []) more))
-          (safe.finds (one ∷ more)
-          (finds_at entry before after state step reply (payloads_in (old.seen log_name)) is_in is (safe.images (old.seen log_name) seen) found,
-          subst (λ (f : FamilyState). FindsHistory entry f rest more) (sym (family_after state step one)) finds));
+          (safe.finds (one ∷ more) (
+            finds_at entry before after state step reply (payloads_in (old.seen log_name)) is_in is (safe.images (old.seen log_name) seen) found,
+            subst (λ (f : FamilyState). FindsHistory entry f rest more) (sym (family_after state step one)) finds,
+          ));
       images = λ image here. step_image entry old new before after state step reply image is_in is now_in keeps safe.images (crash image here) here;
     }
 

@@ -68,7 +68,7 @@ two_ran entry exit r s first second no_log headline folder is =
     let stood = headline.images folder is in
     let began = nothing_yet entry r.mark.count r.found no_log (headline.finds.0.1 first) in
     let last : of_a (states_after start one_set (r ∷ s ∷ [])) ≡ changed_by (changing_of (Set (97 ∷ []) (49 ∷ []))) (opened_by r) =
-        ap (λ (st : StoreState). command_after st (Set (97 ∷ []) (49 ∷ [])) s) (opened unopened r first) ∙ set_taken (opened_by r) (97 ∷ []) (49 ∷ []) s second in
+    ap (λ (st : StoreState). command_after st (Set (97 ∷ []) (49 ∷ [])) s) (opened unopened r first) ∙ set_taken (opened_by r) (97 ∷ []) (49 ∷ []) s second in
     let held = subst (λ (st : StoreState). IsHeld entry st stood.0 stood.1) last stood.3 in
     subst (λ (l : Map). StandsFor folder 1 l) (held.1 ∙ ap (λ (l : Map). insert l (97 ∷ []) (49 ∷ [])) began.1)
     (subst (λ (k : ℕ). StandsFor folder k stood.1) (held.0 ∙ ap (λ k. k + 1) began.0) stood.2)

@@ -7,8 +7,8 @@ ghost use Rattle.pebble_cli.specs.Settings.{Set, IsSet, payload_of};
 ghost use Rattle.pb_keys.specs.Map.{Map};
 
 use crate::pairs::Pairs;
-use crate::store_error::StoreError;
 use crate::setting::read_setting;
+use crate::store_error::StoreError;
 use crate::word::Word;
 use pb_devices::{Disk, Fault};
 use pb_gate_log::GateLog;

@@ -7,8 +7,8 @@ ghost use Rattle.pb_keys.specs.Map.{Map};
 
 use crate::open_log::{open_log, read_sets};
 use crate::pairs::Pairs;
-use crate::store_error::StoreError;
 use crate::setting::{COUNTS, Setting, spell_setting};
+use crate::store_error::StoreError;
 use crate::word::Word;
 use pb_devices::Disk;
 use pb_gate_log::GateLog;

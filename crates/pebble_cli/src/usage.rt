@@ -3,8 +3,8 @@ ghost use Rattle.std.specs.List.{list_any};
 ghost use Rattle.clap.specs.Words.{kind_of};
 ghost use Rattle.pebble_cli.specs.Usage.{is_run, is_flag};
 
-use clap::{Command, Error};
 use clap::error::ErrorKind;
+use clap::{Command, Error};
 use std::alloc::{AllocError, Global};
 
 /// Whether the words are the usage: the one word `run`.

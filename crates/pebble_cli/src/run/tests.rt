@@ -63,7 +63,7 @@ const FIRST: &[u8] = b"open A\nA set a 1\nA get a\n";
 
 #[test]
 fn scripts_get_their_replies(rt: HostRuntime) -> Result<(), Fail> {
-    let rows: [(&[u8], &[u8], Status); 9] = [
+    let rows: [(&[u8], &[u8], Status); 14] = [
         (FIRST, b"opened 0\nok 1\nvalue 1\n", Status::Success),
         (b"", b"", Status::Success),
         (b"open A", b"opened 0\n", Status::Success),
@@ -79,8 +79,13 @@ fn scripts_get_their_replies(rt: HostRuntime) -> Result<(), Fail> {
         ),
         (b"open A\nA sat a 1\n", b"fault line 2\n", Status::Script),
         (b"open B\n", b"fault line 1\n", Status::Script),
-        (b"open A\n\n", b"fault line 2\n", Status::Script),
-        (b"open A\nA get a \n", b"fault line 2\n", Status::Script),
+        (b"open A\n\n", b"opened 0\n", Status::Success),
+        (b"# \xff\n open  A \r\n", b"opened 0\n", Status::Success),
+        (b"open A\nA get a \n", b"opened 0\nnone\n", Status::Success),
+        (b"open A\r\nA get \x7f\n", b"fault line 2\n", Status::Script),
+        (b"open A\nA get a@9\n", b"fault line 2\n", Status::Script),
+        (b"open A\nA get %\n", b"fault line 2\n", Status::Script),
+        (b"\ntable t\nend\nx", b"fault line 2\n", Status::Script),
     ];
     for (script, printed, status) in rows {
         let got = run_over_memory(rt.alloc(), &["run"], script, 0, 0)?;
@@ -104,7 +109,11 @@ fn memory_is_not_always_wanted(rt: HostRuntime) -> Result<(), Fail> {
 
 #[test]
 fn words_of_1_to_48_bytes_are_words(rt: HostRuntime) -> Result<(), Fail> {
-    for (len, status) in [(1, Status::Success), (48, Status::Success), (49, Status::Script)] {
+    for (len, status) in [
+        (1, Status::Success),
+        (48, Status::Success),
+        (49, Status::Script),
+    ] {
         let mut script = b"open A\nA set ".to_vec(rt.alloc())?;
         for _ in 0..len {
             script.push(b'k')?;
@@ -120,7 +129,8 @@ fn words_of_1_to_48_bytes_are_words(rt: HostRuntime) -> Result<(), Fail> {
 fn a_script_of_16_mib_is_not_too_long(rt: HostRuntime) -> Result<(), Fail> {
     let longest = line_feeds(rt.alloc(), MAX_SCRIPT)?;
     let got = run_over_memory(rt.alloc(), &["run"], &longest, 0, 0)?;
-    assert_eq!(rt; got.status, Status::Script);
+    assert_eq!(rt; got.status, Status::Success);
+    assert_eq!(rt; got.printed.len(), 0);
     let longer = line_feeds(rt.alloc(), MAX_SCRIPT + 1)?;
     let got = run_over_memory(rt.alloc(), &["run"], &longer, 0, 0)?;
     assert_eq!(rt; got.status, Status::TooLong);
@@ -130,9 +140,12 @@ fn a_script_of_16_mib_is_not_too_long(rt: HostRuntime) -> Result<(), Fail> {
 
 #[test]
 fn other_words_get_the_usage(rt: HostRuntime) -> Result<(), Fail> {
-    let rows: [&[&str]; 6] = [
+    let rows: [&[&str]; 9] = [
         &[],
         &["run", "x"],
+        &["run", "-h"],
+        &["help"],
+        &["help", "run"],
         &["gen", "5"],
         &["gen", "1", "-1"],
         &["--help"],

@@ -4,6 +4,8 @@
 mod bucket;
 mod calls;
 mod disk;
+#[cfg(test)]
+mod draws;
 mod file;
 mod folder;
 mod names;

@@ -1,3 +1,5 @@
+mod plain;
+
 use super::*;
 use std::test::Fail;
 

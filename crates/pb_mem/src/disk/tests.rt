@@ -1,3 +1,6 @@
+mod plain;
+mod steps;
+
 use super::*;
 use std::process::Abort;
 use std::test::Fail;

@@ -11,3 +11,4 @@ pub mod Again
 pub mod AgainLines
 pub mod AgainTexts
 pub mod AgainScripts
+pub mod Alone

@@ -12,5 +12,6 @@ pub mod Counting
 pub mod Progress
 pub mod Crash
 pub mod Early
+pub mod WholeScripts
 pub mod Damage
 pub mod OneSet

@@ -1,5 +1,6 @@
 ghost use Rattle.std.specs.Prelude.{◌≡◌, ◌+◌, ◌++◌, ℕ, true, false, map, unwrap_or, [], OnOk, IfOk, MatchBool};
 ghost use Rattle.std.specs.List.{list_all};
+ghost use Rattle.pb_script.specs.Script.{Lines, lines_of};
 ghost use Rattle.pebble_cli.specs.Lines.{is_built, is_fault, said_by, first_fault, due_lines};
 ghost use Rattle.pebble_cli.specs.Steps.{as_line};
 
@@ -12,6 +13,7 @@ use std::alloc::{AllocError, Global};
 /// The fault is the first line that is off the grammar or not built, so each text is read alone: no block is built yet.
 pub fn read_lines(alloc: Global, script: &[u8]) -> Result<Vec<Step>, ParseError>
     ensures ok { IfOk result (λ steps. (first_fault script.now ≡ None) × (map as_line steps.items ≡ due_lines script.now)) }
+    ensures whole { IfOk result (λ steps. lines_of script.now ≡ Lines (map as_line steps.items)) }
     ensures fault { (number : ℕ) → result ≡ Err (ParseError.Fault number) → (place : ℕ) × (first_fault script.now ≡ Some place) × (number ≡ place + 1) }
 {
     let mut steps = Vec::new(alloc);

@@ -23,8 +23,8 @@ abbrev pub built_lines : ScriptRead → Option (List Line)
 built_lines (Lines lines) = if list_all is_built lines then Some lines else None
 built_lines (Fault number) = None
 
--- the line that a text says, as a script of its own: none where it is skipped. Nothing where it is off the grammar, or where its
--- line isn't built; so is the first text of a block, and no block is built
+-- the line that a text says, as a script of its own, and none where it is skipped. Nothing where the text is off the grammar,
+-- begins a block, or says a line that isn't built
 abbrev pub said_by : List ℕ → Option (List Line)
 said_by text = built_lines (lines_of text)
 

@@ -1,4 +1,5 @@
-ghost use Rattle.std.specs.Prelude.{◌<◌, ◌≤◌, length};
+ghost use Rattle.std.specs.Prelude.{◌≤◌, length};
+ghost use Rattle.pb_wal.specs.Changes.{IsShort};
 
 use super::*;
 use pb_keys::Bytes;

@@ -1,10 +1,9 @@
 // What the headline says of a folder in memory, drawn from the contract of `run` alone.
-ghost use Rattle.std.specs.Prelude.{◌≡◌, ℕ, List, ◌∷◌, length, IfOk};
-ghost use Rattle.std.specs.FinMap.{empty};
+ghost use Rattle.std.specs.Prelude.{◌≡◌, ℕ, List, [], ◌∷◌, length, IfOk};
+ghost use Rattle.std.specs.FinMap.{empty, insert};
 ghost use Rattle.pb_devices.specs.Contents.{Folder, IsImage};
 ghost use Rattle.pb_mem.specs.Disk.{DiskView, held};
 ghost use Rattle.pebble_cli.specs.Folder.{StandsFor};
-ghost use Rattle.pebble_cli.proofs.OneSet.{one_pair};
 
 use super::*;
 use pb_mem::{MemBucket, MemDisk, MemSink, MemSource};
@@ -17,7 +16,7 @@ fn one_set(alloc: Global, disks: &mut [MemDisk]) -> Result<Status, AllocError>
     requires eight { length disks.old ≡ 8 }
     requires fresh { (a : DiskView) (others : List DiskView) → disks.old ≡ a ∷ others → a.slots ≡ empty }
     ensures { IfOk result (λ status. status ≡ Status.Success → (b : DiskView) (others : List DiskView) → disks.new ≡ b ∷ others
-        → (folder : Folder) → IsImage (held b) folder → StandsFor folder 1 one_pair) }
+        → (folder : Folder) → IsImage (held b) folder → StandsFor folder 1 (insert empty (97 ∷ []) (49 ∷ []))) }
 {
     let words = [String::from_str(alloc, "run")?];
     let script = b"open A\nA set a 1\n".to_vec(alloc)?;

@@ -4,7 +4,7 @@ use Rattle.std.proofs.lemmas.List.{append-nil}
 use Rattle.pb_script.specs.Answers.{◌>>=◌}
 use Rattle.pb_script.specs.Fields.{names_of}
 use Rattle.pb_script.specs.Strings.{name_of}
-use Rattle.pb_script.specs.Script.{ScriptRead, Lines, Fault, ended, behind_text, read_texts, step, lines_of}
+use Rattle.pb_script.specs.Script.{ScriptRead, Lines, Fault, ended, with_lines, behind_text, read_texts, step, lines_of}
 use Rattle.pb_script.specs.Texts.{texts_of}
 use Rattle.pb_script.specs.declared.line.Line.{Line}
 use Rattle.pb_script.specs.declared.table_line.TableLine.{TableLine}
@@ -41,12 +41,26 @@ behind_texts-next : (count : ℕ) (front : List Line) (line : Option Line) (read
 behind_texts-next count front line (Lines lines) = ap (λ (x : List Line). Lines x) (sym (append_assoc front (ended line) lines))
 behind_texts-next count front line (Fault number) = ap (λ (x : ℕ). Fault x) (omega arith)
 
-pub next_text : (count : ℕ) (front : List Line) (place : Place) (text : List ℕ) (texts : List (List ℕ)) (next : Place × Option Line) → step place text ≡ Some next
-    → behind_texts count front (read_texts place (text ∷ texts)) ≡ behind_texts (count + 1) (front ++ ended next.1) (read_texts next.0 texts)
+-- the place and the lines behind a text, and what the texts behind it say
+next_step : (count : ℕ) (front new : List Line) (texts : List (List ℕ)) (next : Place) (read : Option (Place × Option Line)) → with_lines front read ≡ Some (next, new)
+    → behind_texts count front (elim read [ None ↦ Fault 1 | Some next ↦ behind_text next.1 (read_texts next.0 texts) ]) ≡ behind_texts (count + 1) new (read_texts next texts)
+next_step count front new texts next None is = cc
+next_step count front new texts next (Some (place, line)) is =
+    let both : ◌≡◌ {A = Place × List Line} (place, front ++ ended line) (next, new) = cc in
+    let same = ap (λ (x : Place × List Line). x.0) both in
+    let grown = ap (λ (x : Place × List Line). x.1) both in
+    behind_texts-next count front line (read_texts place texts)
+    ∙ ap (λ (p : Place). behind_texts (count + 1) (front ++ ended line) (read_texts p texts)) same
+    ∙ ap (λ (f : List Line). behind_texts (count + 1) f (read_texts next texts)) grown
+
+pub next_text : (count : ℕ) (front new : List Line) (place : Place) (text : List ℕ) (texts : List (List ℕ)) (next : Place) → with_lines front (step place text) ≡ Some (next, new)
+    → behind_texts count front (read_texts place (text ∷ texts)) ≡ behind_texts (count + 1) new (read_texts next texts)
 unfolding read_texts
-next_text count front place text texts next is =
-    ap (λ (s : Option (Place × Option Line)). behind_texts count front (elim s [ None ↦ Fault 1 | Some next ↦ behind_text next.1 (read_texts next.0 texts) ])) is
-    ∙ behind_texts-next count front next.1 (read_texts next.0 texts)
+next_text count front new place text texts next is = next_step count front new texts next (step place text) is
+
+off_step : (front : List Line) (read : Option (Place × Option Line)) → with_lines front read ≡ None → read ≡ None
+off_step front None is = refl
+off_step front (Some next) is = cc
 
 pub off_text : (count : ℕ) (front : List Line) (place : Place) (text : List ℕ) (texts : List (List ℕ)) → step place text ≡ None
     → behind_texts count front (read_texts place (text ∷ texts)) ≡ Fault (count + 1)
@@ -75,25 +89,24 @@ pub record Reads (whole : ScriptRead) (number : ℕ) (front : List Line) (place 
   pub counted : 1 ≤ number
   pub read : whole ≡ behind_texts (number - 1) front (read_texts place (texts_of rest))
 
-pub next_read : (whole : ScriptRead) (number : ℕ) (front new : List Line) (place : Place) (rest text behind : List ℕ) (next : Place) (line : Option Line)
-    → Reads whole number front place rest → texts_of rest ≡ text ∷ texts_of behind → step place text ≡ Some (next, line) → new ≡ front ++ ended line
+pub next_read : (whole : ScriptRead) (number : ℕ) (front new : List Line) (place : Place) (rest text behind : List ℕ) (next : Place)
+    → Reads whole number front place rest → texts_of rest ≡ text ∷ texts_of behind → with_lines front (step place text) ≡ Some (next, new)
     → whole ≡ behind_texts (number + 1 - 1) new (read_texts next (texts_of behind))
-next_read whole number front new place rest text behind next line reads texts is grown =
+next_read whole number front new place rest text behind next reads texts is =
     let counted = reads.counted in
     reads.read
     ∙ ap (λ (t : List (List ℕ)). behind_texts (number - 1) front (read_texts place t)) texts
-    ∙ next_text (number - 1) front place text (texts_of behind) (next, line) is
-    ∙ ap (λ (k : ℕ). behind_texts k (front ++ ended line) (read_texts next (texts_of behind))) (omega arith)
-    ∙ ap (λ (f : List Line). behind_texts (number + 1 - 1) f (read_texts next (texts_of behind))) (sym grown)
+    ∙ next_text (number - 1) front new place text (texts_of behind) next is
+    ∙ ap (λ (k : ℕ). behind_texts k new (read_texts next (texts_of behind))) (omega arith)
 
 pub fault_read : (whole : ScriptRead) (number n : ℕ) (front : List Line) (place : Place) (rest text behind : List ℕ)
-    → Reads whole number front place rest → texts_of rest ≡ text ∷ texts_of behind → (n ≡ number) × (step place text ≡ None) → whole ≡ Fault n
+    → Reads whole number front place rest → texts_of rest ≡ text ∷ texts_of behind → (n ≡ number) × (with_lines front (step place text) ≡ None) → whole ≡ Fault n
 fault_read whole number n front place rest text behind reads texts off =
     let counted = reads.counted in
     let same = off.0 in
     reads.read
     ∙ ap (λ (t : List (List ℕ)). behind_texts (number - 1) front (read_texts place t)) texts
-    ∙ off_text (number - 1) front place text (texts_of behind) off.1
+    ∙ off_text (number - 1) front place text (texts_of behind) (off_step front (step place text) off.1)
     ∙ ap (λ (k : ℕ). Fault k) (omega arith)
 
 pub between_read : (whole : ScriptRead) (number : ℕ) (front : List Line) (place : Place) (rest : List ℕ)

@@ -40,6 +40,12 @@ abbrev pub ended : Option Line → List Line
 ended None = []
 ended (Some line) = line ∷ []
 
+-- these lines and the one that a text ends, with the place behind the text
+abbrev pub with_lines : List Line → Option (Place × Option Line) → Option (Place × List Line)
+with_lines lines read = do
+  next ← read
+  Some (next.0, lines ++ ended next.1)
+
 -- what the texts behind a text say, with the line that this one ends before it, and with faults counted from this one
 abbrev pub behind_text : Option Line → ScriptRead → ScriptRead
 behind_text line (Lines lines) = Lines (ended line ++ lines)

@@ -1,9 +1,9 @@
-ghost use Rattle.std.specs.Prelude.{◌≡◌, ◌<◌, ◌≤◌, ◌+◌, ◌∷◌, ◌^◌, ℕ, [], None, Some, ◌++◌, length, IfOk, OnOk};
+ghost use Rattle.std.specs.Prelude.{◌≡◌, ◌<◌, ◌≤◌, ◌∷◌, ◌^◌, ℕ, [], None, Some, length, IfOk, OnOk};
 ghost use Rattle.std.specs.Io.BufRead.{strip_last};
 ghost use Rattle.pb_script.specs.Answers.{Gives};
 ghost use Rattle.pb_script.specs.Texts.{texts_of};
 ghost use Rattle.pb_script.specs.Words.{is_skipped};
-ghost use Rattle.pb_script.specs.Script.{Lines, Fault, after_line, ended, said, step, lines_of};
+ghost use Rattle.pb_script.specs.Script.{Lines, Fault, after_line, with_lines, said, step, lines_of};
 
 use crate::cuts::cut;
 use crate::fault::WordFault;
@@ -12,7 +12,8 @@ use crate::lines::read_line;
 use crate::table_lines::{is_end, read_table_line};
 use crate::{Line, ParseError, TableLine, TableLines};
 use pb_keys::Bytes;
-use std::alloc::{AllocError, Global};
+use std::alloc::Global;
+use std::mem::replace;
 
 /// Where the next text of a script stands.
 #[derive(Debug, Drop)]
@@ -35,9 +36,7 @@ pub fn parse(alloc: Global, script: &[u8]) -> Result<Vec<Line>, ParseError>
     let mut rest = script;
     while !rest.is_empty() {
         let (text, behind) = first_text(rest);
-        let (next, line) = numbered_step(alloc, place, text, number)?;
-        keep(&mut lines, line)?;
-        place = next;
+        numbered_step(alloc, &mut place, &mut lines, text, number)?;
         rest = behind;
         number += 1;
     }
@@ -68,42 +67,38 @@ fn without_return(text: &[u8]) -> &[u8]
     }
 }
 
-/// Appends the line that a text ends, where there is one.
-fn keep(lines: &mut Vec<Line>, line: Option<Line>) -> Result<(), AllocError>
-    ensures { OnOk result (lines.new.items ≡ lines.old.items ++ ended line) }
-{
-    match line {
-        None => Ok(()),
-        Some(line) => Ok(lines.push(line)?),
-    }
-}
-
-/// What `step` answers for the text of the line with this number.
+/// What `step` does for the text of the line with this number.
 fn numbered_step(
     alloc: Global,
-    place: Place,
+    place: &mut Place,
+    lines: &mut Vec<Line>,
     text: &[u8],
     number: u64,
-) -> Result<(Place, Option<Line>), ParseError>
-    ensures ok { IfOk result (λ next. step place text.now ≡ Some next) }
-    ensures fault { (n : ℕ) → result ≡ Err (ParseError.Fault n) → (n ≡ number) × (step place text.now ≡ None) }
+) -> Result<(), ParseError>
+    ensures ok { OnOk result (with_lines lines.old.items (step place.old text.now) ≡ Some (place.new, lines.new.items)) }
+    ensures fault { (n : ℕ) → result ≡ Err (ParseError.Fault n) → (n ≡ number) × (with_lines lines.old.items (step place.old text.now) ≡ None) }
 {
-    match step(alloc, place, text) {
-        Ok(next) => Ok(next),
+    match step(alloc, place, lines, text) {
+        Ok(()) => Ok(()),
         Err(WordFault::OffGrammar) => Err(ParseError::Fault(number)),
         Err(WordFault::NoMemory) => Err(ParseError::NoMemory),
     }
 }
 
-/// The place behind a text, and the line that the text ends.
+/// Brings the place behind a text, and appends the line that the text ends.
 #[tactic(auto, unfolding(crate::specs::Script::step))]
-fn step(alloc: Global, place: Place, text: &[u8]) -> Result<(Place, Option<Line>), WordFault>
-    ensures { Gives (λ x. x) result (step place text.now) }
+fn step(
+    alloc: Global,
+    place: &mut Place,
+    lines: &mut Vec<Line>,
+    text: &[u8],
+) -> Result<(), WordFault>
+    ensures { Gives (λ x. (place.new, lines.new.items)) result (with_lines lines.old.items (step place.old text.now)) }
 {
     if is_skipped(text) {
-        return Ok((place, None));
+        return Ok(());
     }
-    said(alloc, place, text)
+    said(alloc, place, lines, text)
 }
 
 /// Whether the text is a comment, or has no word.
@@ -117,40 +112,63 @@ fn is_skipped(text: &[u8]) -> bool
 }
 
 #[tactic(auto, unfolding(crate::specs::Script::said))]
-fn said(alloc: Global, place: Place, text: &[u8]) -> Result<(Place, Option<Line>), WordFault>
-    ensures { Gives (λ x. x) result (said place text.now) }
+fn said(
+    alloc: Global,
+    place: &mut Place,
+    lines: &mut Vec<Line>,
+    text: &[u8],
+) -> Result<(), WordFault>
+    ensures { Gives (λ x. (place.new, lines.new.items)) result (with_lines lines.old.items (said place.old text.now)) }
 {
-    match place {
-        Place::Between => Ok(after_line(read_line(alloc, text)?)),
-        Place::Within(table, lines) => said_within(alloc, table, lines, text),
+    match replace(place, Place::Between) {
+        Place::Between => keep(place, lines, read_line(alloc, text)?),
+        Place::Within(table, block) => said_within(alloc, table, block, place, lines, text),
     }
 }
 
-fn after_line(line: Line) -> (Place, Option<Line>)
-    ensures { result ≡ after_line line }
+/// Appends a line, or begins the block of a table.
+fn keep(place: &mut Place, lines: &mut Vec<Line>, line: Line) -> Result<(), WordFault>
+    ensures { Gives (λ x. (place.new, lines.new.items)) result (with_lines lines.old.items (Some (after_line line))) }
 {
     match line {
-        Line::Table { table, lines } => (Place::Within(table, lines), None),
-        line => (Place::Between, Some(line)),
+        Line::Table {
+            table,
+            lines: block,
+        } => {
+            *place = Place::Within(table, block);
+        }
+        line => {
+            *place = Place::Between;
+            lines.push(line)?;
+        }
     }
+    Ok(())
 }
 
 #[tactic(auto, unfolding(crate::specs::Script::said))]
 fn said_within(
     alloc: Global,
     table: Bytes,
-    lines: TableLines,
+    block: TableLines,
+    place: &mut Place,
+    lines: &mut Vec<Line>,
     text: &[u8],
-) -> Result<(Place, Option<Line>), WordFault>
-    ensures { Gives (λ x. x) result (said (Place.Within table lines) text.now) }
+) -> Result<(), WordFault>
+    ensures { Gives (λ x. (place.new, lines.new.items)) result (with_lines lines.old.items (said (Place.Within table block) text.now)) }
 {
     if is_end(text) {
-        return Ok((Place::Between, Some(Line::Table { table, lines })));
+        *place = Place::Between;
+        lines.push(Line::Table {
+            table,
+            lines: block,
+        })?;
+        return Ok(());
     }
     let line = read_table_line(alloc, text)?;
-    let mut lines = lines.into_vec();
-    lines.push(line)?;
-    Ok((Place::Within(table, TableLines::from_vec(lines)), None))
+    let mut block = block.into_vec();
+    block.push(line)?;
+    *place = Place::Within(table, TableLines::from_vec(block));
+    Ok(())
 }
 
 #[cfg(test)]

@@ -17,10 +17,10 @@ loop-rest-init c = record {
 same_fault : {T : Type 0} (r : Result T ParseError) (y x : ParseError) (n : ℕ) → r ≡ Err y → y ≡ x → r ≡ Err (FaultAt n) → x ≡ FaultAt n
 same_fault r y x n one two is = cc
 
-pub returns-in_err-next-clause-fault : goal.returns-in_err-next-clause-fault
-returns-in_err-next-clause-fault c = λ n is.
+pub returns-in_err-numbered_step-clause-fault : goal.returns-in_err-numbered_step-clause-fault
+returns-in_err-numbered_step-clause-fault c = λ n is.
     let p = err_from_is_err_and c.from_residual.result c.from_residual.ensures.1 in
-    let off = c.in_err-next.ensures.fault n (ap (λ (e : ParseError). Err e) (same_fault c.from_residual.result p.0 c.in_err-next.field-0.0 n p.1 p.2 is)) in
+    let off = c.in_err-numbered_step.ensures.fault n (ap (λ (e : ParseError). Err e) (same_fault c.from_residual.result p.0 c.in_err-numbered_step.field-0.0 n p.1 p.2 is)) in
     fault_read (lines_of c.args.script.now) c.loop-rest.number n c.loop-rest.lines.items c.loop-rest.place c.loop-rest.rest.now c.first_text.result.0.now c.first_text.result.1.now c.loop-rest.invariant.reads c.first_text.ensures.texts off
 
 pub loop-rest-preserved : goal.loop-rest-preserved
@@ -28,7 +28,7 @@ loop-rest-preserved c = record {
   short = omega (arith, c.loop-rest.invariant.short, c.first_text.ensures.shorter);
   reads = record {
     counted = omega arith;
-    read = next_read (lines_of c.args.script.now) c.loop-rest.number c.loop-rest.lines.items c.keep.new.lines.items c.loop-rest.place c.loop-rest.rest.now c.first_text.result.0.now c.first_text.result.1.now c.in_ok-next.next c.in_ok-next.line c.loop-rest.invariant.reads c.first_text.ensures.texts c.in_ok-next.ensures.ok c.in_ok-keep.ensures;
+    read = next_read (lines_of c.args.script.now) c.loop-rest.number c.loop-rest.lines.items c.numbered_step.new.lines.items c.loop-rest.place c.loop-rest.rest.now c.first_text.result.0.now c.first_text.result.1.now c.numbered_step.new.place c.loop-rest.invariant.reads c.first_text.ensures.texts c.in_ok-numbered_step.ensures.ok;
   };
 }
 

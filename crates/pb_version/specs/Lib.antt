@@ -1,0 +1,6 @@
+pub mod Version
+pub mod Edited
+pub mod Rules
+pub mod Fold
+pub mod Meaning
+pub mod Examples

@@ -1,0 +1,165 @@
+-- The nine rules of an edit, and the first that it breaks.
+use Rattle.std.specs.Prelude.{ℕ, List, [], ◌∷◌, length, Bool, true, not, ◌&&◌, ◌||◌, ◌==◌, nat_lt, nat_le, if◌then◌else◌, Option, Some, None, is_some}
+use Rattle.std.specs.List.{list_any, list_all}
+use Rattle.pb_edit.specs.Edit.{CreatedItem, VersionEdit}
+use Rattle.pb_keys.specs.Order.{is_below}
+use Rattle.pb_keys.specs.Key.{at_sign}
+use Rattle.pb_keys.specs.Span.{KeySpan, overlap}
+use Rattle.pb_keys.specs.View.{KeyView}
+use Rattle.pb_version.specs.declared.broken.Broken.{Broken}
+use Rattle.pb_version.specs.declared.broken.Broken.TheVariants.{V1, V2, V3, V4, V5, V6, V7, V8, V9}
+use Rattle.pb_version.specs.Version.{TableView, FiveNumbers, VersionView, tables_of_level, all_tables}
+use Rattle.pb_version.specs.Edited.{is_deleted, staying, new_tables, new_tables_of_level, shown_backings, backings_after, five_after, each_level, edited}
+
+abbrev pub has_number : List TableView → ℕ → Bool
+has_number tables number = list_any (λ t. t.number == number) tables
+
+abbrev pub has_backing : List CreatedItem → ℕ → Bool
+has_backing backings number = list_any (λ b. b.number == number) backings
+
+-- ---- V1: each deleted table is in the version at that level
+
+abbrev pub keeps_v1 : VersionView → VersionEdit → Bool
+keeps_v1 old edit = list_all (λ d. has_number (tables_of_level old d.level) d.number) edit.deleted
+
+-- ---- V2: a new table's number is no other's, and its number and rank are reserved
+
+abbrev pub have_own_numbers : List TableView → Bool
+have_own_numbers [] = true
+have_own_numbers (t ∷ ts) = not (has_number ts t.number) && have_own_numbers ts
+
+-- after the edit
+abbrev pub is_reserved : VersionView → VersionEdit → ℕ → Bool
+is_reserved old edit number = nat_lt number (five_after old.five edit).next
+
+abbrev pub is_numbered_anew : VersionView → VersionEdit → TableView → Bool
+is_numbered_anew old edit t =
+    not (has_number (all_tables old) t.number) && not (has_backing (shown_backings old edit) t.number)
+    && is_reserved old edit t.number && is_reserved old edit t.rank
+
+abbrev pub keeps_v2 : VersionView → VersionEdit → Bool
+keeps_v2 old edit = have_own_numbers (new_tables old edit) && list_all (is_numbered_anew old edit) (new_tables old edit)
+
+-- ---- V3: a new table's ends are a span, and its prefix and suffix have their form, which is none yet
+
+abbrev pub is_plain : List ℕ → Bool
+is_plain bytes = not (list_any (λ b. b == at_sign) bytes)
+
+-- 1 to 1,025 bytes without '@'
+abbrev pub is_end : List ℕ → Bool
+is_end bytes = nat_le 1 (length bytes) && nat_le (length bytes) 1025 && is_plain bytes
+
+abbrev pub is_span : KeySpan → Bool
+is_span span = is_end span.lo && is_end span.hi && is_below span.lo span.hi
+
+-- at most 1,024 bytes without '@'
+abbrev pub is_prefix : List ℕ → Bool
+is_prefix bytes = nat_le (length bytes) 1024 && is_plain bytes
+
+-- none, or at most 1,024 bytes of which the first is '@'
+abbrev pub is_suffix : List ℕ → Bool
+is_suffix [] = true
+is_suffix (b ∷ bs) = b == at_sign && nat_le (length (b ∷ bs)) 1024
+
+-- what a later format takes away
+abbrev pub has_no_parts : KeyView → Bool
+has_no_parts view = length view.prefix == 0 && length view.suffix == 0
+
+abbrev pub is_view : KeyView → Bool
+is_view view = is_span view.bounds && is_prefix view.prefix && is_suffix view.suffix && has_no_parts view
+
+abbrev pub keeps_v3 : VersionView → VersionEdit → Bool
+keeps_v3 old edit = list_all (λ t. is_view t.view) (new_tables old edit)
+
+-- ---- V4: a new table overlaps no other of its level that stays or is new; on level 0 it may, with another rank
+
+abbrev pub are_apart : ℕ → TableView → TableView → Bool
+are_apart level t u = not (overlap t.view.bounds u.view.bounds) || (level == 0 && not (t.rank == u.rank))
+
+abbrev pub are_all_apart : ℕ → List TableView → Bool
+are_all_apart level [] = true
+are_all_apart level (t ∷ ts) = list_all (are_apart level t) ts && are_all_apart level ts
+
+abbrev pub level_keeps_v4 : VersionView → VersionEdit → ℕ → List TableView → Bool
+level_keeps_v4 old edit level tables =
+    are_all_apart level (new_tables_of_level old edit level)
+    && list_all (λ t. list_all (are_apart level t) (staying edit level tables)) (new_tables_of_level old edit level)
+
+abbrev pub keeps_v4 : VersionView → VersionEdit → Bool
+keeps_v4 old edit = list_all (λ kept. kept) (each_level (level_keeps_v4 old edit) 0 old.levels)
+
+-- ---- V5: a created backing is new and reserved, and is that of a physical table which the edit deletes, or of no table
+
+-- whether a physical table of this number and size goes from the level
+abbrev pub lets_go : VersionEdit → CreatedItem → ℕ → List TableView → Bool
+lets_go edit c level tables =
+    list_any (λ t. is_deleted edit level t && not t.is_virtual && t.number == c.number && t.size == c.size) tables
+
+abbrev pub is_let_go : VersionView → VersionEdit → CreatedItem → Bool
+is_let_go old edit c = list_any (λ goes. goes) (each_level (lets_go edit c) 0 old.levels)
+
+abbrev pub is_backing_anew : VersionView → VersionEdit → CreatedItem → Bool
+is_backing_anew old edit c =
+    not (has_backing old.backings c.number)
+    && (is_let_go old edit c || not (has_number (all_tables old) c.number))
+    && is_reserved old edit c.number
+
+abbrev pub keeps_v5 : VersionView → VersionEdit → Bool
+keeps_v5 old edit = list_all (is_backing_anew old edit) edit.created
+
+-- ---- V6: after the edit the backing of each virtual table is there
+
+abbrev pub has_its_backing : List CreatedItem → TableView → Bool
+has_its_backing backings t = not t.is_virtual || has_backing backings t.backing
+
+abbrev pub keeps_v6 : VersionView → VersionEdit → Bool
+keeps_v6 old edit = list_all (has_its_backing (backings_after old edit)) (all_tables (edited old edit))
+
+-- ---- V7: a removed backing was there, and after the edit each backing has a virtual table
+
+abbrev pub is_shown : List TableView → ℕ → Bool
+is_shown tables backing = list_any (λ t. t.is_virtual && t.backing == backing) tables
+
+abbrev pub keeps_v7 : VersionView → VersionEdit → Bool
+keeps_v7 old edit =
+    list_all (has_backing old.backings) edit.removed
+    && list_all (λ b. is_shown (all_tables (edited old edit)) b.number) (backings_after old edit)
+
+-- ---- V8: counts, reserved numbers and format don't fall, the five numbers fit each other, and the first edit has them all
+
+abbrev pub none_falls : FiveNumbers → FiveNumbers → Bool
+none_falls old new =
+    nat_le old.accepted new.accepted && nat_le old.next new.next && nat_le old.flushed new.flushed && nat_le old.format new.format
+
+abbrev pub fit_each_other : FiveNumbers → Bool
+fit_each_other five = nat_le five.flushed five.accepted && nat_lt five.log five.next && five.format == 1
+
+abbrev pub has_all_five : VersionEdit → Bool
+has_all_five edit = is_some edit.accepted && is_some edit.next && is_some edit.log && is_some edit.flushed && is_some edit.format
+
+-- before the first edit the format is 0
+abbrev pub keeps_v8 : VersionView → VersionEdit → Bool
+keeps_v8 old edit =
+    none_falls old.five (five_after old.five edit)
+    && fit_each_other (five_after old.five edit)
+    && (not (old.five.format == 0) || has_all_five edit)
+
+-- ---- V9: at most 4,096 tables stand after the edit
+
+abbrev pub keeps_v9 : VersionView → VersionEdit → Bool
+keeps_v9 old edit = nat_le (length (all_tables (edited old edit))) 4096
+
+-- ---- all of them, in this order
+
+unfoldable pub first_broken : VersionView → VersionEdit → Option Broken
+first_broken old edit =
+    if not (keeps_v1 old edit) then Some V1
+    else if not (keeps_v2 old edit) then Some V2
+    else if not (keeps_v3 old edit) then Some V3
+    else if not (keeps_v4 old edit) then Some V4
+    else if not (keeps_v5 old edit) then Some V5
+    else if not (keeps_v6 old edit) then Some V6
+    else if not (keeps_v7 old edit) then Some V7
+    else if not (keeps_v8 old edit) then Some V8
+    else if not (keeps_v9 old edit) then Some V9
+    else None

@@ -4,3 +4,4 @@ pub mod Rules
 pub mod Fold
 pub mod Meaning
 pub mod Examples
+pub mod LevelZero

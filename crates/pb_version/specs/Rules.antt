@@ -1,5 +1,5 @@
 -- The nine rules of an edit, and the first that it breaks.
-use Rattle.std.specs.Prelude.{ℕ, List, [], ◌∷◌, length, Bool, true, not, ◌&&◌, ◌||◌, ◌==◌, nat_lt, nat_le, if◌then◌else◌, Option, Some, None, is_some}
+use Rattle.std.specs.Prelude.{ℕ, List, [], ◌∷◌, ◌++◌, map, length, Bool, true, not, ◌&&◌, ◌||◌, ◌==◌, nat_lt, nat_le, if◌then◌else◌, Option, Some, None, is_some}
 use Rattle.std.specs.List.{list_any, list_all}
 use Rattle.pb_edit.specs.Edit.{CreatedItem, VersionEdit}
 use Rattle.pb_keys.specs.Order.{is_below}
@@ -24,21 +24,34 @@ keeps_v1 old edit = list_all (λ d. has_number (tables_of_level old d.level) d.n
 
 -- ---- V2: a new table's number is no other's, and its number and rank are reserved
 
-abbrev pub have_own_numbers : List TableView → Bool
-have_own_numbers [] = true
-have_own_numbers (t ∷ ts) = not (has_number ts t.number) && have_own_numbers ts
+abbrev pub new_numbers : VersionEdit → List ℕ
+new_numbers edit = map (λ p. p.number) edit.physical ++ map (λ v. v.number) edit.virtuals
+
+abbrev pub new_ranks : VersionEdit → List ℕ
+new_ranks edit = map (λ p. p.rank) edit.physical ++ map (λ v. v.rank) edit.virtuals
+
+abbrev pub is_listed : List ℕ → ℕ → Bool
+is_listed numbers number = list_any (λ n. n == number) numbers
+
+abbrev pub are_distinct : List ℕ → Bool
+are_distinct [] = true
+are_distinct (n ∷ ns) = not (is_listed ns n) && are_distinct ns
 
 -- after the edit
 abbrev pub is_reserved : VersionView → VersionEdit → ℕ → Bool
 is_reserved old edit number = nat_lt number (five_after old.five edit).next
 
-abbrev pub is_numbered_anew : VersionView → VersionEdit → TableView → Bool
-is_numbered_anew old edit t =
-    not (has_number (all_tables old) t.number) && not (has_backing (shown_backings old edit) t.number)
-    && is_reserved old edit t.number && is_reserved old edit t.rank
+-- neither a table's before the edit nor a backing's then or after it
+abbrev pub is_free : VersionView → VersionEdit → ℕ → Bool
+is_free old edit number =
+    not (has_number (all_tables old) number) && not (has_backing old.backings number) && not (has_backing edit.created number)
 
 abbrev pub keeps_v2 : VersionView → VersionEdit → Bool
-keeps_v2 old edit = have_own_numbers (new_tables old edit) && list_all (is_numbered_anew old edit) (new_tables old edit)
+keeps_v2 old edit =
+    are_distinct (new_numbers edit)
+    && list_all (is_free old edit) (new_numbers edit)
+    && list_all (is_reserved old edit) (new_numbers edit)
+    && list_all (is_reserved old edit) (new_ranks edit)
 
 -- ---- V3: a new table's ends are a span, and its prefix and suffix have their form, which is none yet
 

@@ -1,6 +1,5 @@
 -- Versions: the tables of each level, the backings, and five numbers.
-use Rattle.std.specs.Prelude.{ℕ, ◌+◌, List, [], ◌∷◌, Bool, ◌==◌, if◌then◌else◌, Option, Some, None, replicate, slice_index_or}
-use Rattle.std.specs.List.{flat_map}
+use Rattle.std.specs.Prelude.{ℕ, ◌+◌, List, [], ◌∷◌, ◌++◌, Bool, ◌==◌, if◌then◌else◌, Option, Some, None, replicate, slice_index_or}
 use Rattle.pb_edit.specs.declared.grammar.TheConstants.{LAST_LEVEL}
 use Rattle.pb_edit.specs.Edit.{CreatedItem}
 use Rattle.pb_keys.specs.View.{KeyView}
@@ -40,9 +39,14 @@ empty_version = record {
 abbrev pub tables_of_level : VersionView → ℕ → List TableView
 tables_of_level v level = slice_index_or v.levels level []
 
+abbrev pub joined : List (List TableView) → List TableView
+joined [] = []
+joined (tables ∷ []) = tables
+joined (tables ∷ next ∷ deeper) = tables ++ joined (next ∷ deeper)
+
 -- level by level
 abbrev pub all_tables : VersionView → List TableView
-all_tables v = flat_map (λ tables. tables) v.levels
+all_tables v = joined v.levels
 
 -- the size of the backing of this number, if there is one
 abbrev pub size_of : List CreatedItem → ℕ → Option ℕ

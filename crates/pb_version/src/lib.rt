@@ -2,8 +2,13 @@
 #![tactic(auto)]
 
 mod broken;
+mod five;
 pub mod laws;
+mod rules;
+mod scans;
 mod table;
 
 pub use broken::Broken;
+pub use five::Five;
+pub use rules::MAX_TABLES;
 pub use table::Table;

@@ -67,16 +67,16 @@ virtual_table backings v = record {
   is_virtual = true;
 }
 
--- those of some physical and virtual items
-abbrev pub tables_of : VersionView → VersionEdit → List PhysicalItem → List VirtualItem → List TableView
-tables_of old edit physical virtuals = map physical_table physical ++ map (virtual_table (shown_backings old edit)) virtuals
+-- where these backings may be shown
+abbrev pub tables_of : List CreatedItem → List PhysicalItem → List VirtualItem → List TableView
+tables_of shown physical virtuals = map physical_table physical ++ map (virtual_table shown) virtuals
 
 abbrev pub new_tables : VersionView → VersionEdit → List TableView
-new_tables old edit = tables_of old edit edit.physical edit.virtuals
+new_tables old edit = tables_of (shown_backings old edit) edit.physical edit.virtuals
 
 abbrev pub new_tables_of_level : VersionView → VersionEdit → ℕ → List TableView
 new_tables_of_level old edit level =
-    tables_of old edit (filter (λ p. p.level == level) edit.physical) (filter (λ v. v.level == level) edit.virtuals)
+    tables_of (shown_backings old edit) (filter (λ p. p.level == level) edit.physical) (filter (λ v. v.level == level) edit.virtuals)
 
 abbrev pub level_after : VersionView → VersionEdit → ℕ → List TableView → List TableView
 level_after old edit level tables = all_placed (comes_before level) (new_tables_of_level old edit level) (staying edit level tables)

@@ -1,16 +1,26 @@
 -- The rules where level 0 is the only one, in the form in which the code judges them: new tables and what the edit touches
 -- against what stands.
-use Rattle.std.specs.Prelude.{ℕ, ◌+◌, List, [], ◌∷◌, length, Bool, not, ◌&&◌, ◌||◌, ◌==◌, nat_lt, nat_le, if◌then◌else◌, Option, Some, None}
+use Rattle.std.specs.Prelude.{◌≡◌, ℕ, ◌+◌, ◌≤◌, ◌⊎◌, List, [], ◌∷◌, length, Bool, false, not, ◌&&◌, ◌||◌, ◌==◌, nat_lt, nat_le, if◌then◌else◌, Option, Some, None}
 use Rattle.std.specs.List.{filter, list_any, list_all}
 use Rattle.pb_edit.specs.Edit.{DeletedItem, CreatedItem, VersionEdit}
 use Rattle.pb_version.specs.declared.broken.Broken.{Broken}
-use Rattle.pb_version.specs.declared.broken.Broken.TheVariants.{V1, V2, V4, V5, V6, V7, V8, V9}
+use Rattle.pb_version.specs.declared.broken.Broken.TheVariants.{V1, V2, V3, V4, V5, V6, V7, V8, V9, NoMemory}
 use Rattle.pb_version.specs.Version.{TableView, FiveNumbers, VersionView}
+use Rattle.pb_version.specs.State.{PreparedEdit}
+use Rattle.pb_version.specs.Edited.{tables_of}
 use Rattle.pb_version.specs.Rules.{has_number, has_backing, has_its_backing, is_listed, is_shown, are_distinct, are_apart, are_all_apart, none_falls, fit_each_other, has_all_five}
 
 -- a version of level 0 alone
 abbrev pub flat : List TableView → List CreatedItem → FiveNumbers → VersionView
 flat tables backings five = record { levels = tables ∷ []; backings = backings; five = five }
+
+-- the tables that an edit makes, where these backings may be shown
+abbrev pub made_tables : List CreatedItem → VersionEdit → List TableView
+made_tables shown edit = tables_of shown edit.physical edit.virtuals
+
+-- there was no memory, or V3 is broken
+abbrev pub IsRefused : Bool → Broken → Type 0
+IsRefused kept error = (error ≡ NoMemory) ⊎ ((error ≡ V3) × (kept ≡ false))
 
 -- whether the table of level 0 is among those that are deleted
 abbrev pub goes : List DeletedItem → TableView → Bool
@@ -96,3 +106,11 @@ late_broken tables backings old edit new after five =
     else if not (fits_after old five edit) then Some V8
     else if not (are_few tables edit.deleted new) then Some V9
     else None
+
+-- with room for the tables that stay and the new ones
+pub record IsMadeReady (standing : List TableView) (edit : VersionEdit) (new : List TableView) (after : List CreatedItem) (numbers : FiveNumbers) (p : PreparedEdit) : Type 0 where
+  pub deleted : p.deleted ≡ edit.deleted
+  pub tables : p.tables ≡ new
+  pub backings : p.backings ≡ after
+  pub five : p.five ≡ numbers
+  pub room : length new + length (filter (λ t. not (goes edit.deleted t)) standing) ≤ p.room

@@ -5,3 +5,4 @@ pub mod Fold
 pub mod Meaning
 pub mod Examples
 pub mod LevelZero
+pub mod State

@@ -9,7 +9,7 @@ use Rattle.pb_keys.specs.View.{KeyView}
 use Rattle.pb_version.specs.declared.broken.Broken.{Broken}
 use Rattle.pb_version.specs.declared.broken.Broken.TheVariants.{V1, V2, V3, V4, V5, V6, V7, V8, V9}
 use Rattle.pb_version.specs.Version.{TableView, FiveNumbers, VersionView, tables_of_level, all_tables}
-use Rattle.pb_version.specs.Edited.{is_deleted, staying, new_tables, new_tables_of_level, shown_backings, backings_after, five_after, each_level, edited}
+use Rattle.pb_version.specs.Edited.{is_deleted, staying, new_tables, new_tables_of_level, backings_after, five_after, each_level, edited}
 
 abbrev pub has_number : List TableView → ℕ → Bool
 has_number tables number = list_any (λ t. t.number == number) tables

@@ -2,13 +2,20 @@
 #![tactic(auto)]
 
 mod broken;
+mod copies;
 mod five;
+mod installed;
 pub mod laws;
+mod made;
+mod prepared;
 mod rules;
 mod scans;
 mod table;
+mod version;
 
 pub use broken::Broken;
 pub use five::Five;
+pub use prepared::Prepared;
 pub use rules::MAX_TABLES;
 pub use table::Table;
+pub use version::Version;

@@ -1,0 +1,48 @@
+-- What holds of every version, and what is made ready for an edit of one.
+use Rattle.std.specs.Prelude.{◌≡◌, ℕ, ◌≤◌, ◌⊎◌, List, length, true, Option, Some, None, IfSome}
+use Rattle.std.specs.List.{AllByRecursion, list_all}
+use Rattle.pb_edit.specs.Edit.{DeletedItem, CreatedItem, VersionEdit}
+use Rattle.pb_edit.specs.Grammar.{IsNumber, IsPhysical, IsVirtual, IsCreated}
+use Rattle.pb_version.specs.declared.broken.Broken.{Broken}
+use Rattle.pb_version.specs.declared.broken.Broken.TheVariants.{NoMemory}
+use Rattle.pb_version.specs.Version.{TableView, FiveNumbers, VersionView, all_tables}
+use Rattle.pb_version.specs.Edited.{new_tables, backings_after, five_after, edited}
+use Rattle.pb_version.specs.Rules.{has_its_backing, is_shown, first_broken}
+
+-- each virtual table has its backing, and each backing has a virtual table
+pub record IsVersion (v : VersionView) : Type 0 where
+  pub backed : list_all (has_its_backing v.backings) (all_tables v) ≡ true
+  pub shown : list_all (λ b. is_shown (all_tables v) b.number) v.backings ≡ true
+
+-- what the grammar of edits says of numbers and levels, whichever kinds of items count in it
+pub record IsSpellable (edit : VersionEdit) : Type 0 where
+  pub accepted : IfSome edit.accepted IsNumber
+  pub next : IfSome edit.next IsNumber
+  pub log : IfSome edit.log IsNumber
+  pub flushed : IfSome edit.flushed IsNumber
+  pub format : IfSome edit.format IsNumber
+  pub physical : AllByRecursion IsPhysical edit.physical
+  pub virtuals : AllByRecursion IsVirtual edit.virtuals
+  pub created : AllByRecursion IsCreated edit.created
+
+-- there was no memory, or this is the first rule that is broken
+abbrev pub IsVerdict : Option Broken → Broken → Type 0
+IsVerdict first error = (error ≡ NoMemory) ⊎ (first ≡ Some error)
+
+-- what an install puts in place, with room for so many tables
+pub record PreparedEdit : Type 0 where
+  pub deleted : List DeletedItem
+  pub tables : List TableView
+  pub backings : List CreatedItem
+  pub five : FiveNumbers
+  pub room : ℕ
+
+-- the edit breaks no rule, and all that it makes of this version is ready
+pub record Prepares (old : VersionView) (edit : VersionEdit) (p : PreparedEdit) : Type 0 where
+  pub spellable : IsSpellable edit
+  pub unbroken : first_broken old edit ≡ None
+  pub deleted : p.deleted ≡ edit.deleted
+  pub tables : p.tables ≡ new_tables old edit
+  pub backings : p.backings ≡ backings_after old edit
+  pub five : p.five ≡ five_after old.five edit
+  pub room : length (all_tables (edited old edit)) ≤ p.room

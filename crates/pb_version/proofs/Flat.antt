@@ -2,8 +2,8 @@
 use Rattle.std.proofs.Common.{◌≡◌, ℕ, ◌≤◌, List, [], ◌∷◌, Bool, true, false, cond, length, suc, zero, get_or, refl, ap, sym, ◌∙◌, subst, arith}
 use Rattle.std.proofs.lemmas.Bool.Decides.{nat_tests}
 use Rattle.std.proofs.lemmas.List.Sums.{AllPass-from_list_all, list_all-from_AllPass}
-use Rattle.std.specs.Prelude.{not, ◌==◌, ◌&&◌, ◌||◌, nat_lt, nat_le, Option, Some, None, slice_index_or}
-use Rattle.std.specs.List.{filter, list_any, list_all, AllByRecursion}
+use Rattle.std.specs.Prelude.{not, ◌==◌, ◌&&◌, ◌||◌, nat_lt, nat_le, All, Option, Some, None, slice_index_or}
+use Rattle.std.specs.List.{filter, list_any, list_all}
 use Rattle.std.specs.Option.{option_or}
 use Rattle.pb_edit.specs.Edit.{PhysicalItem, VirtualItem, CreatedItem, VersionEdit}
 use Rattle.pb_edit.specs.Grammar.{IsPhysical, IsVirtual, created_below}
@@ -21,13 +21,11 @@ use Rattle.pb_version.proofs.Lists.{and_true, or_false, or_turned, and_grouped, 
 zero_level : (n : ℕ) → n ≤ 0 → (n == 0) ≡ true
 zero_level n h = grind (arith, nat_tests)
 
-physical_level : (ps : List PhysicalItem) → AllByRecursion IsPhysical ps → list_all (λ p. p.level == 0) ps ≡ true
-physical_level [] each = refl
-physical_level (p ∷ ps) each = λ i. zero_level p.level each.0.level i && physical_level ps each.1 i
+physical_level : (ps : List PhysicalItem) → All IsPhysical ps → list_all (λ p. p.level == 0) ps ≡ true
+physical_level ps all = list_all-from_AllPass (λ (p : PhysicalItem). p.level == 0) ps (λ k d h. zero_level (get_or ps k d).level (all k d h).level)
 
-virtual_level : (vs : List VirtualItem) → AllByRecursion IsVirtual vs → list_all (λ v. v.level == 0) vs ≡ true
-virtual_level [] each = refl
-virtual_level (v ∷ vs) each = λ i. zero_level v.level each.0.level i && virtual_level vs each.1 i
+virtual_level : (vs : List VirtualItem) → All IsVirtual vs → list_all (λ v. v.level == 0) vs ≡ true
+virtual_level vs all = list_all-from_AllPass (λ (v : VirtualItem). v.level == 0) vs (λ k d h. zero_level (get_or vs k d).level (all k d h).level)
 
 no_level : (k : ℕ) → (suc k == 0) ≡ false
 no_level k = grind (arith, nat_tests)

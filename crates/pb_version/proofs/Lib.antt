@@ -4,3 +4,6 @@ pub mod Lists
 pub mod Flat
 pub mod Installing
 pub mod Judging
+pub mod Spelling
+pub mod FoldLaws
+pub mod MeaningLaws

@@ -3,6 +3,7 @@ pub mod Edited
 pub mod Rules
 pub mod Fold
 pub mod Meaning
+pub mod Snapshot
 pub mod Examples
 pub mod LevelZero
 pub mod State

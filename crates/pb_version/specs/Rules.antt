@@ -87,7 +87,7 @@ keeps_v3 old edit = list_all (λ t. is_view t.view) (new_tables old edit)
 -- ---- V4: a new table overlaps no other of its level that stays or is new; on level 0 it may, with another rank
 
 abbrev pub are_apart : ℕ → TableView → TableView → Bool
-are_apart level t u = not (overlap t.view.bounds u.view.bounds) || (level == 0 && not (t.rank == u.rank))
+are_apart level t u = (level == 0 && not (t.rank == u.rank)) || not (overlap t.view.bounds u.view.bounds)
 
 abbrev pub are_all_apart : ℕ → List TableView → Bool
 are_all_apart level [] = true

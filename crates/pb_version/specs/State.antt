@@ -1,6 +1,6 @@
 -- What holds of every version, and what is made ready for an edit of one.
-use Rattle.std.specs.Prelude.{◌≡◌, ℕ, ◌≤◌, ◌⊎◌, List, length, true, Option, Some, None, IfSome}
-use Rattle.std.specs.List.{AllByRecursion, list_all}
+use Rattle.std.specs.Prelude.{◌≡◌, ℕ, ◌≤◌, ◌⊎◌, List, length, true, Option, Some, None, IfSome, All}
+use Rattle.std.specs.List.{list_all}
 use Rattle.pb_edit.specs.Edit.{DeletedItem, CreatedItem, VersionEdit}
 use Rattle.pb_edit.specs.Grammar.{IsNumber, IsPhysical, IsVirtual, IsCreated}
 use Rattle.pb_version.specs.declared.broken.Broken.{Broken}
@@ -21,9 +21,9 @@ pub record IsSpellable (edit : VersionEdit) : Type 0 where
   pub log : IfSome edit.log IsNumber
   pub flushed : IfSome edit.flushed IsNumber
   pub format : IfSome edit.format IsNumber
-  pub physical : AllByRecursion IsPhysical edit.physical
-  pub virtuals : AllByRecursion IsVirtual edit.virtuals
-  pub created : AllByRecursion IsCreated edit.created
+  pub physical : All IsPhysical edit.physical
+  pub virtuals : All IsVirtual edit.virtuals
+  pub created : All IsCreated edit.created
 
 -- there was no memory, or this is the first rule that is broken
 abbrev pub IsVerdict : Option Broken → Broken → Type 0

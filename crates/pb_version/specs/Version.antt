@@ -39,10 +39,10 @@ empty_version = record {
 abbrev pub tables_of_level : VersionView → ℕ → List TableView
 tables_of_level v level = slice_index_or v.levels level []
 
-abbrev pub joined : List (List TableView) → List TableView
+abbrev pub joined : {X : Type 0} → List (List X) → List X
 joined [] = []
-joined (tables ∷ []) = tables
-joined (tables ∷ next ∷ deeper) = tables ++ joined (next ∷ deeper)
+joined (xs ∷ []) = xs
+joined (xs ∷ ys ∷ others) = xs ++ joined (ys ∷ others)
 
 -- level by level
 abbrev pub all_tables : VersionView → List TableView

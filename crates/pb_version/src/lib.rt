@@ -10,6 +10,7 @@ mod made;
 mod prepared;
 mod rules;
 mod scans;
+mod snapshot;
 mod table;
 mod version;
 

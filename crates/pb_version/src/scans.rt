@@ -61,7 +61,7 @@ pub(crate) fn is_shown(tables: &[Table], backing: u64) -> bool
 pub(crate) fn are_apart(t: &Table, u: &Table) -> bool
     ensures { result ≡ are_apart 0 t.now u.now }
 {
-    !t.view.bounds.overlaps(&u.view.bounds) || t.rank != u.rank
+    t.rank != u.rank || !t.view.bounds.overlaps(&u.view.bounds)
 }
 
 #[tactic(auto, using(pb_keys::proofs::OrderFacts::compares))]

@@ -5,6 +5,7 @@ ghost use Rattle.pb_keys.specs.Span.{overlap};
 ghost use Rattle.pb_version.specs.Version.{empty_version, tables_of_level, size_of};
 ghost use Rattle.pb_version.specs.Edited.{edited};
 ghost use Rattle.pb_version.specs.Rules.{first_broken};
+ghost use Rattle.pb_version.specs.Snapshot.{snapshot_of};
 ghost use Rattle.pb_version.specs.State.{IsSpellable, IsVerdict, Prepares};
 
 use super::copies::copy_of_tables;
@@ -12,8 +13,9 @@ use super::installed::{merged, without_deleted};
 use super::made::copy_of_backings;
 use super::prepared::{Prepared, ready_for};
 use super::scans::size_of;
+use super::snapshot::{physical_items, virtual_items};
 use super::{Broken, Five, Table};
-use pb_edit::{Created, Edit};
+use pb_edit::{Backings, Created, Deletions, Edit, Numbers, Physicals, Virtuals};
 use pb_keys::Span;
 use std::alloc::{AllocError, Global};
 use std::marker::Model;
@@ -132,6 +134,27 @@ impl Version {
         size_of(self.backings.as_slice(), number)
     }
 
+    /// The edit that makes this version anew, with all five numbers: its tables by number, and its backings.
+    pub fn snapshot(&self, alloc: Global) -> Result<Edit, AllocError>
+        ensures ok { IfOk result (λ edit. edit ≡ snapshot_of self.now) }
+    {
+        let physical = physical_items(alloc, self.tables.as_slice())?;
+        let virtuals = virtual_items(alloc, self.tables.as_slice())?;
+        let created = copy_of_backings(alloc, self.backings.as_slice())?;
+        Ok(Edit {
+            accepted: Some(self.five.accepted),
+            next: Some(self.five.next),
+            log: Some(self.five.log),
+            flushed: Some(self.five.flushed),
+            format: Some(self.five.format),
+            deleted: Deletions::from_vec(Vec::new(alloc)),
+            physical: Physicals::from_vec(physical),
+            virtuals: Virtuals::from_vec(virtuals),
+            created: Backings::from_vec(created),
+            removed: Numbers::from_vec(Vec::new(alloc)),
+        })
+    }
+
     /// Another value of the same version.
     pub fn copy(&self, alloc: Global) -> Result<Version, AllocError>
         ensures ok { IfOk result (λ copy. copy ≡ self.now) }
@@ -151,3 +174,6 @@ fn overlap_span(tables: &[Table], span: &Span) -> bool
 {
     tables.iter().any(|t| t.view.bounds.overlaps(span))
 }
+
+#[cfg(test)]
+mod tests;

@@ -1,17 +1,19 @@
 -- What stands after an edit that was made ready is the version after the edit.
-use Rattle.std.proofs.Common.{◌≡◌, ◌+◌, ◌≤◌, List, Bool, true, false, cond, length, refl, ap, sym, ◌∙◌, arith}
-use Rattle.std.specs.Prelude.{not, Option, Some, None}
+use Rattle.std.proofs.Common.{◌≡◌, ◌+◌, ◌≤◌, List, Bool, true, false, cond, length, refl, ap, sym, ◌∙◌, subst, arith}
+use Rattle.std.proofs.lemmas.List.Folds.{list_all-map}
+use Rattle.std.specs.Prelude.{not, Option, Some, None, ◌&&◌, ◌||◌, ◌==◌, map}
 use Rattle.std.specs.List.{filter, list_all}
 use Rattle.pb_edit.specs.Edit.{CreatedItem, VersionEdit}
 use Rattle.pb_version.specs.declared.broken.Broken.{Broken}
 use Rattle.pb_version.specs.declared.broken.Broken.TheVariants.{V1, V2, V3, V4, V5, V6, V7, V8, V9}
 use Rattle.pb_version.specs.Version.{TableView, FiveNumbers, VersionView, all_tables}
-use Rattle.pb_version.specs.Edited.{comes_before, new_tables, all_placed, backings_after, edited}
-use Rattle.pb_version.specs.Rules.{has_backing, is_shown, keeps_v1, keeps_v2, keeps_v3, keeps_v4, keeps_v5, keeps_v6, keeps_v7, keeps_v8, keeps_v9, first_broken}
-use Rattle.pb_version.specs.State.{IsVersion, PreparedEdit, Prepares}
+use Rattle.pb_version.specs.Edited.{comes_before, new_tables, all_placed, shown_backings, backings_after, five_after, edited}
+use Rattle.pb_version.specs.Rules.{each_pair, are_apart, are_all_apart, are_distinct, is_free, is_reserved, has_number, has_backing, is_shown, is_view, none_falls, fit_each_other, has_all_five, new_numbers, new_ranks, keeps_v1, keeps_v2, keeps_v3, keeps_v4, keeps_v5, keeps_v6, keeps_v7, keeps_v8, keeps_v9, first_broken}
+use Rattle.pb_version.specs.State.{IsVersion, IsSpellable, PreparedEdit, Prepares, other_number}
 use Rattle.pb_version.specs.LevelZero.{flat, goes}
-use Rattle.pb_version.proofs.Lists.{right, length_all_placed}
-use Rattle.pb_version.proofs.Flat.{all_after}
+use Rattle.pb_version.proofs.Lists.{left, right, or_true, length_all_placed, list_all_all_placed}
+use Rattle.pb_version.proofs.Flat.{all_after, new_at_zero}
+use Rattle.pb_version.proofs.Pairs.{filter_keeps, pairs_filter, pairs_all_placed, weaker, apart_turned, other_turned, others, distinct_numbers, numbers_of}
 
 passes : (kept : Bool) (rule : Broken) (rest : Option Broken) → cond (not kept) (Some rule) rest ≡ None → (kept ≡ true) × (rest ≡ None)
 passes true rule rest e = (refl, e)
@@ -43,15 +45,83 @@ unbroken_keeps old edit e =
     let p9 = passes (keeps_v9 old edit) V9 _ p8.1 in
     record { v1 = p1.0; v2 = p2.0; v3 = p3.0; v4 = p4.0; v5 = p5.0; v6 = p6.0; v7 = p7.0; v8 = p8.0; v9 = p9.0 }
 
--- whatever stood before
-pub edited_is_version : (old : VersionView) (edit : VersionEdit) → first_broken old edit ≡ None → IsVersion (edited old edit)
-unfolding edited
-edited_is_version old edit e =
-    let keeps = unbroken_keeps old edit e in
-    record {
-      backed = keeps.v6;
-      shown = right (list_all (has_backing old.backings) edit.removed) (list_all (λ b. is_shown (all_tables (edited old edit)) b.number) (backings_after old edit)) keeps.v7;
-    }
+-- where level 0 is the only one
+module _ (tables : List TableView) (backings : List CreatedItem) (five : FiveNumbers) (edit : VersionEdit)
+    (spellable : IsSpellable edit) (is : IsVersion (flat tables backings five)) (unbroken : first_broken (flat tables backings five) edit ≡ None) where
+  abbrev new : List TableView
+  new = new_tables (flat tables backings five) edit
+
+  abbrev stay : List TableView
+  stay = filter (λ t. not (goes edit.deleted t)) tables
+
+  abbrev keeps : KeepsAll (flat tables backings five) edit
+  keeps = unbroken_keeps (flat tables backings five) edit unbroken
+
+  all_views : list_all (λ (t : TableView). is_view t.view) (all_placed (comes_before 0) new stay) ≡ true
+  all_views =
+      list_all_all_placed (λ (t : TableView). is_view t.view) (comes_before 0) new stay
+      ∙ (λ i. keeps.v3 i && filter_keeps (λ (t : TableView). is_view t.view) (λ t. not (goes edit.deleted t)) tables is.views i)
+
+  new_apart : (are_all_apart 0 new && list_all (λ t. list_all (are_apart 0 t) stay) new) ≡ true
+  new_apart = subst (λ ts. (are_all_apart 0 ts && list_all (λ t. list_all (are_apart 0 t) stay) ts) ≡ true)
+      (new_at_zero tables backings five edit spellable)
+      (left _ true keeps.v4)
+
+  all_apart : are_all_apart 0 (all_placed (comes_before 0) new stay) ≡ true
+  all_apart =
+      pairs_all_placed (are_apart 0) apart_turned (comes_before 0) new stay
+      ∙ (λ i. new_apart i && pairs_filter (are_apart 0) (λ t. not (goes edit.deleted t)) tables (left (are_all_apart 0 tables) true is.apart) i)
+
+  numbers : map (λ (t : TableView). t.number) new ≡ new_numbers edit
+  numbers = numbers_of (shown_backings (flat tables backings five) edit) edit.physical edit.virtuals
+
+  -- the four parts of the second rule
+  parts : (a b c d : Bool) → (a && b && c && d) ≡ true → (a ≡ true) × (b ≡ true)
+  parts a b c d e = (left a b (left (a && b) c (left (a && b && c) d e)), right a b (left (a && b) c (left (a && b && c) d e)))
+
+  new_numbered : (each_pair other_number new ≡ true) × (list_all (λ (t : TableView). is_free (flat tables backings five) edit t.number) new ≡ true)
+  new_numbered =
+      let p = parts (are_distinct (new_numbers edit)) (list_all (is_free (flat tables backings five) edit) (new_numbers edit))
+      (list_all (is_reserved (flat tables backings five) edit) (new_numbers edit)) (list_all (is_reserved (flat tables backings five) edit) (new_ranks edit)) keeps.v2 in (
+        sym (distinct_numbers new) ∙ ap are_distinct numbers ∙ p.0,
+        sym (list_all-map (is_free (flat tables backings five) edit) (λ (t : TableView). t.number) new)
+            ∙ ap (list_all (is_free (flat tables backings five) edit)) numbers ∙ p.1,
+      )
+
+  free_of_standing : (t : TableView) → is_free (flat tables backings five) edit t.number ≡ true → list_all (other_number t) stay ≡ true
+  free_of_standing t e =
+      filter_keeps (other_number t) (λ u. not (goes edit.deleted u)) tables
+      (sym (others tables t)
+      ∙ left (not (has_number tables t.number)) (not (has_backing backings t.number))
+      (left (not (has_number tables t.number) && not (has_backing backings t.number)) (not (has_backing edit.created t.number)) e))
+
+  all_numbered : each_pair other_number (all_placed (comes_before 0) new stay) ≡ true
+  all_numbered =
+      pairs_all_placed other_number other_turned (comes_before 0) new stay
+      ∙ (λ i.
+      (new_numbered.0 i && weaker (λ t. is_free (flat tables backings five) edit t.number) (λ t. list_all (other_number t) stay) free_of_standing new new_numbered.1 i)
+      && pairs_filter other_number (λ t. not (goes edit.deleted t)) tables is.numbered i)
+
+  then_fits : ((five_after five edit).format == 0 || fit_each_other (five_after five edit)) ≡ true
+  then_fits =
+      let e = right (none_falls five (five_after five edit)) (fit_each_other (five_after five edit))
+      (left (none_falls five (five_after five edit) && fit_each_other (five_after five edit)) (not (five.format == 0) || has_all_five edit) keeps.v8) in
+      ap (λ b. (five_after five edit).format == 0 || b) e ∙ or_true ((five_after five edit).format == 0)
+
+  pub edited_is_version : IsVersion (edited (flat tables backings five) edit)
+  unfolding edited
+  edited_is_version =
+      let all = sym (all_after tables backings five edit spellable) in
+      record {
+        numbered = subst (λ ts. each_pair other_number ts ≡ true) all all_numbered;
+        views = subst (λ ts. list_all (λ (t : TableView). is_view t.view) ts ≡ true) all all_views;
+        apart = ap (λ b. b && true) (subst (λ ts. are_all_apart 0 ts ≡ true) all all_apart);
+        fits = then_fits;
+        few = keeps.v9;
+        backed = keeps.v6;
+        shown = right (list_all (has_backing backings) edit.removed)
+            (list_all (λ b. is_shown (all_tables (edited (flat tables backings five) edit)) b.number) (backings_after (flat tables backings five) edit)) keeps.v7;
+      }
 
 module _ (tables : List TableView) (backings : List CreatedItem) (five : FiveNumbers) (edit : VersionEdit) (p : PreparedEdit)
     (is : Prepares (flat tables backings five) edit p) where

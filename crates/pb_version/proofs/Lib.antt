@@ -2,6 +2,7 @@ pub mod Placing
 pub mod Forms
 pub mod Lists
 pub mod Flat
+pub mod Pairs
 pub mod Installing
 pub mod Judging
 pub mod Spelling

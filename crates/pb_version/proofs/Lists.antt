@@ -15,7 +15,7 @@ pub or_false : (b : Bool) → (b || false) ≡ b
 or_false true = refl
 or_false false = refl
 
-or_true : (b : Bool) → (b || true) ≡ true
+pub or_true : (b : Bool) → (b || true) ≡ true
 or_true true = refl
 or_true false = refl
 
@@ -104,7 +104,7 @@ list_all_same h q r same (x ∷ xs) e = λ i.
 
 -- ---- lists into which others were placed
 
-list_all_placed : {X : Type 0} (q : X → Bool) (f : X → X → Bool) (x : X) (ys : List X) → list_all q (placed f x ys) ≡ (q x && list_all q ys)
+pub list_all_placed : {X : Type 0} (q : X → Bool) (f : X → X → Bool) (x : X) (ys : List X) → list_all q (placed f x ys) ≡ (q x && list_all q ys)
 list_all_placed q f x [] = refl
 list_all_placed q f x (y ∷ ys) =
     elim (f x y) as (λ b. list_all q (cond b (x ∷ y ∷ ys) (y ∷ placed f x ys)) ≡ (q x && (q y && list_all q ys))) [

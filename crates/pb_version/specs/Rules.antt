@@ -89,9 +89,13 @@ keeps_v3 old edit = list_all (λ t. is_view t.view) (new_tables old edit)
 abbrev pub are_apart : ℕ → TableView → TableView → Bool
 are_apart level t u = (level == 0 && not (t.rank == u.rank)) || not (overlap t.view.bounds u.view.bounds)
 
+-- of each element and each later one
+abbrev pub each_pair : {X : Type 0} → (X → X → Bool) → List X → Bool
+each_pair holds [] = true
+each_pair holds (x ∷ xs) = list_all (holds x) xs && each_pair holds xs
+
 abbrev pub are_all_apart : ℕ → List TableView → Bool
-are_all_apart level [] = true
-are_all_apart level (t ∷ ts) = list_all (are_apart level t) ts && are_all_apart level ts
+are_all_apart level tables = each_pair (are_apart level) tables
 
 abbrev pub level_keeps_v4 : VersionView → VersionEdit → ℕ → List TableView → Bool
 level_keeps_v4 old edit level tables =

@@ -1,16 +1,24 @@
 -- What holds of every version, and what is made ready for an edit of one.
-use Rattle.std.specs.Prelude.{◌≡◌, ℕ, ◌≤◌, ◌⊎◌, List, length, true, Option, Some, None, IfSome, All}
+use Rattle.std.specs.Prelude.{◌≡◌, ℕ, ◌≤◌, ◌⊎◌, ◌||◌, ◌==◌, List, length, Bool, true, not, nat_le, Option, Some, None, IfSome, All}
 use Rattle.std.specs.List.{list_all}
 use Rattle.pb_edit.specs.Edit.{DeletedItem, CreatedItem, VersionEdit}
 use Rattle.pb_edit.specs.Grammar.{IsNumber, IsPhysical, IsVirtual, IsCreated}
 use Rattle.pb_version.specs.declared.broken.Broken.{Broken}
 use Rattle.pb_version.specs.declared.broken.Broken.TheVariants.{NoMemory}
 use Rattle.pb_version.specs.Version.{TableView, FiveNumbers, VersionView, all_tables}
-use Rattle.pb_version.specs.Edited.{new_tables, backings_after, five_after, edited}
-use Rattle.pb_version.specs.Rules.{has_its_backing, is_shown, first_broken}
+use Rattle.pb_version.specs.Edited.{new_tables, backings_after, five_after, each_level, edited}
+use Rattle.pb_version.specs.Rules.{each_pair, are_all_apart, fit_each_other, has_its_backing, is_shown, is_view, first_broken}
 
--- each virtual table has its backing, and each backing has a virtual table
+abbrev pub other_number : TableView → TableView → Bool
+other_number t u = not (u.number == t.number)
+
+-- what the rules of edits leave true of a version: its tables' numbers, views and places, their backings, and its numbers
 pub record IsVersion (v : VersionView) : Type 0 where
+  pub numbered : each_pair other_number (all_tables v) ≡ true
+  pub views : list_all (λ t. is_view t.view) (all_tables v) ≡ true
+  pub apart : list_all (λ apart. apart) (each_level are_all_apart 0 v.levels) ≡ true
+  pub fits : (v.five.format == 0 || fit_each_other v.five) ≡ true
+  pub few : nat_le (length (all_tables v)) 4096 ≡ true
   pub backed : list_all (has_its_backing v.backings) (all_tables v) ≡ true
   pub shown : list_all (λ b. is_shown (all_tables v) b.number) v.backings ≡ true
 

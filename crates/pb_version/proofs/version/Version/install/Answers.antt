@@ -29,7 +29,7 @@ invariant_of-self c =
     let stay = c.without_deleted.ensures ∙ ap (λ ds. filter (λ (t : TableView). not (goes ds t)) c.self.inside.tables.items) c.as_slice.ensures.value in
     subst IsVersion
     (sym (installed_is c.self.inside.tables.items c.self.inside.backings.items c.self.inside.five c.requires.0 _ ready c.merged.result.items c.without_deleted.new.tables.items stay c.merged.ensures))
-    (edited_is_version _ c.requires.0 ready.unbroken)
+    (edited_is_version c.self.inside.tables.items c.self.inside.backings.items c.self.inside.five c.requires.0 ready.spellable c.self.invariant ready.unbroken)
 
 pub returns : goal.returns
 returns c = λ edit is.

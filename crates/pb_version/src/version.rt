@@ -6,7 +6,7 @@ ghost use Rattle.pb_version.specs.Version.{empty_version, tables_of_level, size_
 ghost use Rattle.pb_version.specs.Edited.{edited};
 ghost use Rattle.pb_version.specs.Rules.{first_broken};
 ghost use Rattle.pb_version.specs.Snapshot.{snapshot_of};
-ghost use Rattle.pb_version.specs.State.{IsSpellable, IsVerdict, Prepares};
+ghost use Rattle.pb_version.specs.State.{IsVersion, IsSpellable, IsVerdict, Prepares};
 
 use super::copies::copy_of_tables;
 use super::installed::{merged, without_deleted};
@@ -104,7 +104,8 @@ impl Version {
     /// The tables of a level, none where there is no such level. Those of level 0 stand by falling rank, and then by start;
     /// deeper ones by start.
     pub fn tables(&self, level: u8) -> &[Table]
-        ensures { result.now ≡ tables_of_level self.now level }
+        ensures value { result.now ≡ tables_of_level self.now level }
+        ensures in_form { IsVersion self.now }
     {
         if level == 0 {
             self.tables.as_slice()
@@ -122,7 +123,8 @@ impl Version {
 
     /// The five numbers, all 0 before the first edit.
     pub fn five(&self) -> Five
-        ensures { result ≡ self.now.five }
+        ensures value { result ≡ self.now.five }
+        ensures in_form { IsVersion self.now }
     {
         self.five
     }

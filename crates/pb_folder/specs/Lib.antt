@@ -1,0 +1,5 @@
+pub mod SaysVersion
+pub mod Said
+pub mod Held
+pub mod Meaning
+pub mod StandsFor

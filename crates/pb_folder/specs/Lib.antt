@@ -3,3 +3,5 @@ pub mod Said
 pub mod Held
 pub mod Meaning
 pub mod StandsFor
+pub mod Listed
+pub mod Examples

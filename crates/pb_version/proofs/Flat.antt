@@ -88,7 +88,7 @@ backed_bool false true false r g h e d = ap (λ x. x || g) d
 backed_bool false false c r g h e d = cc
 
 module _ (tables : List TableView) (backings : List CreatedItem) (five : FiveNumbers) (edit : VersionEdit) where
-  has_after : (n : ℕ) → has_backing (after tables backings five edit) n ≡ ((has_backing edit.created n || has_backing backings n) && not (is_removed edit n))
+  pub has_after : (n : ℕ) → has_backing (after tables backings five edit) n ≡ ((has_backing edit.created n || has_backing backings n) && not (is_removed edit n))
   has_after n =
       list_any_filter (λ (b : CreatedItem). b.number == n) (λ b. is_removed edit b.number) (all_placed created_below edit.created backings)
       ∙ ap (λ p. list_any p (all_placed created_below edit.created backings)) (λ i (b : CreatedItem). of_number (is_removed edit) b.number n i)
@@ -114,7 +114,7 @@ module _ (tables : List TableView) (backings : List CreatedItem) (five : FiveNum
 -- ---- V7
 
 -- what holds of the number of each backing holds of a number that is a backing's
-of_backing : (p : ℕ → Bool) (backings : List CreatedItem) (n : ℕ) → has_backing backings n ≡ true → list_all (λ b. p b.number) backings ≡ true → p n ≡ true
+pub of_backing : (p : ℕ → Bool) (backings : List CreatedItem) (n : ℕ) → has_backing backings n ≡ true → list_all (λ b. p b.number) backings ≡ true → p n ≡ true
 of_backing p [] n some all = cc
 of_backing p (b ∷ bs) n some all =
     elim (b.number == n) as (λ t. (b.number == n) ≡ t → (t || has_backing bs n) ≡ true → p n ≡ true) [

@@ -8,3 +8,6 @@ pub mod Judging
 pub mod Spelling
 pub mod FoldLaws
 pub mod MeaningLaws
+pub mod Commute
+pub mod Kept
+pub mod KeptFacts

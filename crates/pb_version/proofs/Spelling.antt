@@ -21,4 +21,5 @@ spellable_edit edit is = record {
   physical = at_each IsPhysical edit.physical is.physical.each;
   virtuals = at_each IsVirtual edit.virtuals is.virtuals.each;
   created = at_each IsCreated edit.created is.created.each;
+  created_ascend = is.created.ascend;
 }

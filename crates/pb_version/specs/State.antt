@@ -1,16 +1,24 @@
 -- What holds of every version, and what is made ready for an edit of one.
-use Rattle.std.specs.Prelude.{◌≡◌, ℕ, ◌≤◌, ◌⊎◌, ◌||◌, ◌==◌, List, length, Bool, true, not, nat_le, Option, Some, None, IfSome, All}
+use Rattle.std.specs.Prelude.{◌≡◌, ℕ, ◌≤◌, ◌⊎◌, ◌||◌, ◌==◌, List, length, Bool, true, not, nat_le, nat_lt, ◌&&◌, if◌then◌else◌, Option, Some, None, IfSome, All}
 use Rattle.std.specs.List.{list_all}
+use Rattle.std.specs.Option.{unwrap_or}
 use Rattle.pb_edit.specs.Edit.{DeletedItem, CreatedItem, VersionEdit}
-use Rattle.pb_edit.specs.Grammar.{IsNumber, IsPhysical, IsVirtual, IsCreated}
+use Rattle.pb_edit.specs.Grammar.{IsNumber, IsPhysical, IsVirtual, IsCreated, Ascend, created_below}
 use Rattle.pb_version.specs.declared.broken.Broken.{Broken}
 use Rattle.pb_version.specs.declared.broken.Broken.TheVariants.{NoMemory}
-use Rattle.pb_version.specs.Version.{TableView, FiveNumbers, VersionView, all_tables}
-use Rattle.pb_version.specs.Edited.{new_tables, backings_after, five_after, each_level, edited}
-use Rattle.pb_version.specs.Rules.{each_pair, are_all_apart, fit_each_other, has_its_backing, is_shown, is_view, first_broken}
+use Rattle.pb_version.specs.Version.{TableView, FiveNumbers, VersionView, all_tables, size_of}
+use Rattle.pb_version.specs.Edited.{new_tables, backings_after, five_after, each_level, comes_before, edited}
+use Rattle.pb_version.specs.Rules.{each_pair, are_all_apart, fit_each_other, has_backing, has_its_backing, is_shown, is_view, first_broken}
 
 abbrev pub other_number : TableView → TableView → Bool
 other_number t u = not (u.number == t.number)
+
+-- the size of a virtual table is that of its backing, and a physical table's backing has its number
+abbrev pub is_formed : List CreatedItem → TableView → Bool
+is_formed backings t = if t.is_virtual then unwrap_or (size_of backings t.backing) 0 == t.size else t.backing == t.number
+
+abbrev pub is_below_next : ℕ → TableView → Bool
+is_below_next next t = nat_lt t.number next && nat_lt t.rank next
 
 -- what the rules of edits leave true of a version: its tables' numbers, views and places, their backings, and its numbers
 pub record IsVersion (v : VersionView) : Type 0 where
@@ -19,6 +27,12 @@ pub record IsVersion (v : VersionView) : Type 0 where
   pub apart : list_all (λ apart. apart) (each_level are_all_apart 0 v.levels) ≡ true
   pub fits : (v.five.format == 0 || fit_each_other v.five) ≡ true
   pub few : nat_le (length (all_tables v)) 4096 ≡ true
+  pub sorted : list_all (λ sorted. sorted) (each_level (λ level tables. each_pair (comes_before level) tables) 0 v.levels) ≡ true
+  pub formed : list_all (is_formed v.backings) (all_tables v) ≡ true
+  pub free : list_all (λ t. not (has_backing v.backings t.number)) (all_tables v) ≡ true
+  pub below : list_all (is_below_next v.five.next) (all_tables v) ≡ true
+  pub ascend : each_pair created_below v.backings ≡ true
+  pub backings_below : list_all (λ b. nat_lt b.number v.five.next) v.backings ≡ true
   pub backed : list_all (has_its_backing v.backings) (all_tables v) ≡ true
   pub shown : list_all (λ b. is_shown (all_tables v) b.number) v.backings ≡ true
 
@@ -32,6 +46,7 @@ pub record IsSpellable (edit : VersionEdit) : Type 0 where
   pub physical : All IsPhysical edit.physical
   pub virtuals : All IsVirtual edit.virtuals
   pub created : All IsCreated edit.created
+  pub created_ascend : Ascend created_below edit.created
 
 -- there was no memory, or this is the first rule that is broken
 abbrev pub IsVerdict : Option Broken → Broken → Type 0

@@ -1,6 +1,6 @@
 ghost use Rattle.std.specs.Prelude.{◌≡◌, IsTrue, IfSome, All};
 ghost use Rattle.pb_edit.specs.Edit.{VersionEdit};
-ghost use Rattle.pb_edit.specs.Grammar.{IsNumber, IsPhysical, IsVirtual, IsCreated};
+ghost use Rattle.pb_edit.specs.Grammar.{IsNumber, IsPhysical, IsVirtual, IsCreated, Ascend, created_below};
 ghost use Rattle.pb_version.specs.State.{IsSpellable};
 
 use super::*;
@@ -77,6 +77,13 @@ fn are_created(created: &[Created]) -> bool
     true
 }
 
+#[tactic(auto, using(crate::proofs::KeptFacts::short_ascends))]
+fn is_short(created: &[Created]) -> bool
+    ensures { IsTrue result → Ascend created_below created.now }
+{
+    created.len() <= 1
+}
+
 fn has_numbers(edit: &Edit) -> bool
     ensures { IsTrue result → IfSome edit.now.accepted IsNumber × IfSome edit.now.next IsNumber × IfSome edit.now.log IsNumber × IfSome edit.now.flushed IsNumber × IfSome edit.now.format IsNumber }
 {
@@ -94,6 +101,7 @@ fn is_spellable(edit: &Edit) -> bool
         && are_physical(edit.physical.as_slice())
         && are_virtual(edit.virtuals.as_slice())
         && are_created(edit.created.as_slice())
+        && is_short(edit.created.as_slice())
 }
 
 /// What an edit of a test has, in the order of the fields of `Edit`.

@@ -1,0 +1,11 @@
+pub mod Pointers
+pub mod Folds
+pub mod Kept
+pub mod Reserved
+pub mod Blocks
+pub mod Folders
+pub mod Results
+pub mod Logs
+pub mod Creating
+pub mod Opening
+pub mod Errors

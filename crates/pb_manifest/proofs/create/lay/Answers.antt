@@ -1,0 +1,55 @@
+use Rattle.std.proofs.Common.{[], ◌∷◌, ◌++◌, List, ℕ, Option, ◌∙◌, subst, inl}
+use Rattle.pb_devices.specs.Contents.{KeepsOthers}
+use Rattle.pb_gate_log.specs.EachLog.{EachLog}
+use Rattle.pb_manifest.specs.Manifest.{manifest_name, payloads_in}
+use Rattle.pb_names.specs.Spelling.{current_name}
+use Rattle.pb_manifest.proofs.Creating.{image_before, pointed, seen_before, still_log, still_settled}
+use Rattle.pb_manifest.proofs.create.lay.Goals as goal
+
+pub returns-in_err-log-clause-crash : goal.returns-in_err-log-clause-crash
+returns-in_err-log-clause-crash g c = λ told folder image.
+    let old = g.D.Disk.contents c.args.disk.now in
+    let mid = g.D.Disk.contents c.make_log.new.disk in
+    let made = subst (λ (name : List ℕ). KeepsOthers old mid name) c.file.ensures (c.in_err-log.ensures.others told) in
+    inl (image_before c.args.number c.requires.low old mid made (c.requires.settled told) (folder current_name) (image current_name))
+
+pub point-requires : goal.point-requires
+point-requires g c = λ told.
+    let old = g.D.Disk.contents c.args.disk.now in
+    let mid = g.D.Disk.contents c.make_log.new.disk in
+    let made = subst (λ (name : List ℕ). KeepsOthers old mid name) c.file.ensures (c.in_ok-log.ensures.others told) in
+    still_settled c.args.number c.requires.low old mid made (c.requires.settled told)
+
+pub returns-in_err-current-clause-crash : goal.returns-in_err-current-clause-crash
+returns-in_err-current-clause-crash g c = λ told folder image.
+    let old = g.D.Disk.contents c.args.disk.now in
+    let mid = g.D.Disk.contents c.make_log.new.disk in
+    let new = g.D.Disk.contents c.point.new.disk in
+    let made = subst (λ (name : List ℕ). KeepsOthers old mid name) c.file.ensures (c.in_ok-log.ensures.others told) in
+    pointed c.args.number c.requires.low c.in_ok-log.log c.args.edit.now c.args.pointer.now old mid new (c.in_ok-log.ensures.name ∙ c.file.ensures)
+    (c.in_ok-log.ensures.ok told) (seen_before c.args.number c.requires.low old mid made (c.requires.settled told)) (c.in_err-current.ensures.others told)
+    folder image (c.in_err-current.ensures.crash told (folder current_name) (image current_name))
+
+pub returns-clause-log : goal.returns-clause-log
+returns-clause-log g c = λ told.
+    still_log c.args.number c.requires.low c.in_ok-log.log (c.args.edit.now ∷ []) (g.D.Disk.contents c.make_log.new.disk) (g.D.Disk.contents c.point.new.disk)
+    (c.in_ok-log.ensures.name ∙ c.file.ensures) (c.in_ok-current.ensures.others told) (c.in_ok-log.ensures.ok told)
+
+pub returns-clause-pointers : goal.returns-clause-pointers
+returns-clause-pointers g c = λ told.
+    let old = g.D.Disk.contents c.args.disk.now in
+    let mid = g.D.Disk.contents c.make_log.new.disk in
+    let new = g.D.Disk.contents c.point.new.disk in
+    let made = subst (λ (name : List ℕ). KeepsOthers old mid name) c.file.ensures (c.in_ok-log.ensures.others told) in
+    subst (λ (file : Option (List ℕ)). EachLog c.in_ok-current.current (payloads_in file ++ c.args.pointer.now ∷ []) new)
+    (seen_before c.args.number c.requires.low old mid made (c.requires.settled told)) (c.in_ok-current.ensures.ok told)
+
+pub returns-clause-crash : goal.returns-clause-crash
+returns-clause-crash g c = λ told folder image.
+    let old = g.D.Disk.contents c.args.disk.now in
+    let mid = g.D.Disk.contents c.make_log.new.disk in
+    let new = g.D.Disk.contents c.point.new.disk in
+    let made = subst (λ (name : List ℕ). KeepsOthers old mid name) c.file.ensures (c.in_ok-log.ensures.others told) in
+    pointed c.args.number c.requires.low c.in_ok-log.log c.args.edit.now c.args.pointer.now old mid new (c.in_ok-log.ensures.name ∙ c.file.ensures)
+    (c.in_ok-log.ensures.ok told) (seen_before c.args.number c.requires.low old mid made (c.requires.settled told)) (c.in_ok-current.ensures.others told)
+    folder image (c.in_ok-current.ensures.crash told (folder current_name) (image current_name))

@@ -1,0 +1,7 @@
+use Rattle.std.proofs.Common.{Err, ap}
+use Rattle.pb_manifest.specs.declared.error.CommitError.TheVariants.{Disk}
+use Rattle.pb_manifest.proofs.Errors.{same_error}
+use Rattle.pb_manifest.proofs.manifest.Manifest.draw.Goals as goal
+
+pub returns-in-Err-clause-kept : goal.returns-in-Err-clause-kept
+returns-in-Err-clause-kept g c = λ told not. c.in-Err.ensures.kept told (λ is. not (ap Err (same_error c.in-Err.error Disk is)))

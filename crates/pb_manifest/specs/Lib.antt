@@ -1,0 +1,6 @@
+pub mod SaysVersion
+pub mod Manifest
+pub mod Judged
+pub mod Numbers
+pub mod Steps
+pub mod Found

@@ -1,0 +1,68 @@
+-- A manifest over a folder: which version the folder's files say.
+use Rattle.std.specs.Prelude.{◌≡◌, ℕ, ◌<◌, ◌≤◌, ◌⊎◌, List, [], Option, Some, None, IsSomeAnd}
+use Rattle.pb_devices.specs.Contents.{Contents, Folder, MayLeave, IsImage, IsSettled}
+use Rattle.pb_gate_log.specs.EachLog.{LogPlace, EachLog}
+use Rattle.pb_gate_log.specs.Payloads.{payloads}
+use Rattle.pb_names.specs.Spelling.{current_name, file_name}
+use Rattle.pb_names.specs.declared.file_kind.FileKind.TheVariants.{Manifest, Catalogue}
+use Rattle.pb_payloads.specs.Current.{Pointer, SaysCurrent}
+use Rattle.pb_version.specs.Version.{VersionView}
+use Rattle.pb_manifest.specs.SaysVersion.{SaysVersion}
+
+-- the numbers of the manifest and of the catalogue, the number that is drawn next, and the two logs that are open
+pub record ManifestView : Type 0 where
+  pub number : ℕ
+  pub catalogue : ℕ
+  pub next : ℕ
+  pub log : LogPlace
+  pub current : LogPlace
+
+pub record IsNumbered (number catalogue next : ℕ) (manifest : ManifestView) : Type 0 where
+  pub number_is : manifest.number ≡ number
+  pub catalogue_is : manifest.catalogue ≡ catalogue
+  pub next_is : manifest.next ≡ next
+
+abbrev pub manifest_name : ℕ → List ℕ
+manifest_name number = file_name Manifest number
+
+abbrev pub catalogue_name : ℕ → List ℕ
+catalogue_name number = file_name Catalogue number
+
+abbrev pub pointer_to : ℕ → ℕ → Pointer
+pointer_to manifest catalogue = record { manifest = manifest; catalogue = catalogue }
+
+-- the payloads of a log's file, none where it is absent
+abbrev pub payloads_in : Option (List ℕ) → List (List ℕ)
+payloads_in None = []
+payloads_in (Some bytes) = payloads bytes
+
+-- the files of a folder say this version: the last payload of the current pointer names the two files, and the payloads of
+-- the manifest are edits that fold to the version
+pub record SaysFolder (number catalogue : ℕ) (version : VersionView) (folder : Folder) : Type 0 where
+  pub current : SaysCurrent (payloads_in (folder current_name)) (pointer_to number catalogue)
+  pub manifest : SaysVersion (payloads_in (folder (manifest_name number))) version
+
+-- reads and every image of the folder say this version, and nothing of the two files is pending
+pub record EachManifest (manifest : ManifestView) (version : VersionView) (disk : Contents) : Type 0 where
+  pub pointers : List (List ℕ)
+  pub current : EachLog manifest.current pointers disk
+  pub current_file : manifest.current.file ≡ current_name
+  pub names : SaysCurrent pointers (pointer_to manifest.number manifest.catalogue)
+  pub edits : List (List ℕ)
+  pub log : EachLog manifest.log edits disk
+  pub log_file : manifest.log.file ≡ manifest_name manifest.number
+  pub says : SaysVersion edits version
+  -- each number that was drawn is reserved, and so is the manifest's own
+  pub drawn : manifest.next ≤ version.five.next
+  pub own : manifest.number < version.five.next
+
+-- of every name but these two, reads give the same, no image is new, and what was durable alone is
+pub record KeepsAllBut (old new : Contents) (one two : List ℕ) : Type 0 where
+  pub reads : (other : List ℕ) → (other ≡ one → ⊥) → (other ≡ two → ⊥) → new.seen other ≡ old.seen other
+  pub images : (other : List ℕ) (image : Option (List ℕ)) → (other ≡ one → ⊥) → (other ≡ two → ⊥) → MayLeave new other image → MayLeave old other image
+  pub settled : (other : List ℕ) → (other ≡ one → ⊥) → (other ≡ two → ⊥) → IsSettled old other → IsSettled new other
+
+-- each image says the one version or the other
+abbrev pub EachSays : ℕ → ℕ → VersionView → VersionView → Contents → Type 0
+EachSays number catalogue one other disk =
+    (folder : Folder) → IsImage disk folder → SaysFolder number catalogue one folder ⊎ SaysFolder number catalogue other folder

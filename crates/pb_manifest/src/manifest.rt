@@ -1,0 +1,236 @@
+ghost use Rattle.std.specs.Prelude.{◌≡◌, ◌⊎◌, ◌+◌, ◌<◌, ◌≤◌, ◌^◌, true, ℕ, List, None, Err, IfNone, IfOk, IfSome, OnErr, OnOk};
+ghost use Rattle.pb_devices.specs.Contents.{Folder, IsImage, IsSettled, KeepsOthers};
+ghost use Rattle.pb_devices.specs.Counts.{Rose};
+ghost use Rattle.pb_edit.specs.Grammar.{IsEdit};
+ghost use Rattle.pb_manifest.specs.Found.{HasVersion, IsDamaged, IsNew, KeepsPayloads, Names};
+ghost use Rattle.pb_manifest.specs.Judged.{Judges};
+ghost use Rattle.pb_manifest.specs.Manifest.{EachManifest, EachSays, IsNumbered, KeepsAllBut, SaysFolder, manifest_name, payloads_in, pointer_to};
+ghost use Rattle.pb_manifest.specs.Numbers.{IsFolded, IsSpent, OnlyReserves, SameNumbers, block_end, with_next};
+ghost use Rattle.pb_names.specs.Spelling.{current_name};
+ghost use Rattle.pb_version.specs.declared.broken.Broken.{Broken};
+ghost use Rattle.pb_version.specs.Edited.{edited};
+ghost use Rattle.pb_version.specs.Rules.{first_broken};
+ghost use Rattle.pb_version.specs.Version.{empty_version};
+
+use crate::CommitError;
+use crate::append::{append, spelled};
+use crate::create::{begun, lay};
+use crate::numbers::{BLOCK, reserve_below};
+use crate::pointer::spell_pointer;
+use pb_devices::Disk;
+use pb_edit::{Edit, NUMBERS};
+use pb_gate_log::GateLog;
+use pb_version::Version;
+use std::alloc::Global;
+use std::marker::Model;
+
+/// An open manifest: the edits of a version in one file of a folder, `CURRENT`, which names that file, and the number that
+/// is drawn next.
+///
+/// Between two calls every image that a power cut may leave of the folder says exactly the version that the caller holds.
+/// docs/MODEL.md, "Manifest".
+#[derive(Debug, Drop)]
+pub struct Manifest {
+    number: u64,
+    catalogue: u64,
+    next: u64,
+    log: GateLog,
+    current: GateLog,
+}
+
+impl Model for Manifest {
+    ghost use Rattle.pb_manifest.specs.Manifest.{ManifestView};
+
+    ghost Value = { ManifestView };
+
+    ghost view = { λ m. record { number = m.number; catalogue = m.catalogue; next = m.next; log = m.log; current = m.current } };
+}
+
+impl Manifest {
+    /// Makes a manifest of one edit, and then names it and the catalogue in `CURRENT`, which is made or opened where it
+    /// stands. It draws `next` first. A rule that the edit breaks is told before any device is called.
+    ///
+    /// After an error each image has the payloads that `CURRENT` had, or the folder says the version after the edit.
+    /// `Spent` never comes.
+    pub fn create<D: Disk>(
+        alloc: Global,
+        disk: &mut D,
+        number: u64,
+        catalogue: u64,
+        next: u64,
+        first: &Edit,
+    ) -> Result<(Manifest, Version), CommitError>
+        requires edit { IsEdit first.now }
+        requires number { number < next }
+        requires next { IfSome first.now.next (λ end. next ≤ end) }
+        requires catalogue { catalogue < 2 ^ 62 }
+        requires absent { D.told ≡ true → (D.contents disk.old).seen (manifest_name number) ≡ None }
+        requires settled { D.told ≡ true → IsSettled (D.contents disk.old) current_name }
+        ensures kept { D.told ≡ true → IfOk result (λ made. EachManifest made.0 made.1 (D.contents disk.new)) }
+        ensures version { IfOk result (λ made. made.1 ≡ edited empty_version first.now) }
+        ensures numbers { IfOk result (λ made. IsNumbered number catalogue next made.0) }
+        ensures judged { Judges (first_broken empty_version first.now) result }
+        ensures untouched { (rule : Broken) → result ≡ Err (CommitError.Broken rule) → disk.new ≡ disk.old }
+        ensures crash { D.told ≡ true → (folder : Folder) → IsImage (D.contents disk.new) folder
+            → (payloads_in (folder current_name) ≡ payloads_in ((D.contents disk.old).seen current_name))
+            ⊎ SaysFolder number catalogue (edited empty_version first.now) folder }
+        ensures others { D.told ≡ true → KeepsAllBut (D.contents disk.old) (D.contents disk.new) (manifest_name number) current_name }
+        ensures later { D.fault_count disk.old ≤ D.fault_count disk.new }
+        ensures failed { result ≡ Err CommitError.Disk → Rose (D.fault_count disk.old) (D.fault_count disk.new) }
+    {
+        let (version, edit) = begun(alloc, first)?;
+        let pointer = spell_pointer(alloc, number, catalogue)?;
+        let (log, current) = lay(alloc, disk, number, edit.as_slice(), pointer.as_slice())?;
+        Ok((
+            Manifest {
+                number,
+                catalogue,
+                next,
+                log,
+                current,
+            },
+            version,
+        ))
+    }
+
+    /// The number of the catalogue.
+    pub fn catalogue(&self) -> u64
+        ensures { result ≡ self.now.catalogue }
+    {
+        self.catalogue
+    }
+
+    /// Commits an edit: six device calls. Where a rule is broken, and without memory, nothing has changed. After `Disk` the
+    /// version is as before, and each image says it or the one after the edit: the manifest is to be opened again.
+    /// `Spent` never comes.
+    pub fn commit<D: Disk>(
+        &mut self,
+        alloc: Global,
+        disk: &mut D,
+        version: &mut Version,
+        edit: &Edit,
+    ) -> Result<(), CommitError>
+        requires edit { IsEdit edit.now }
+        requires kept { D.told ≡ true → EachManifest self.old version.old (D.contents disk.old) }
+        ensures kept { D.told ≡ true → OnOk result (EachManifest self.new version.new (D.contents disk.new)) }
+        ensures ok { OnOk result (version.new ≡ edited version.old edit.now) }
+        ensures judged { Judges (first_broken version.old edit.now) result }
+        ensures numbers { SameNumbers self.old self.new }
+        ensures same { OnErr result ((self.new ≡ self.old) × (version.new ≡ version.old)) }
+        ensures untouched { OnErr result ((result ≡ Err CommitError.Disk) ⊎ (disk.new ≡ disk.old)) }
+        ensures crash { D.told ≡ true
+            → EachSays self.old.number self.old.catalogue version.old (edited version.old edit.now) (D.contents disk.new) }
+        ensures others { D.told ≡ true → KeepsOthers (D.contents disk.old) (D.contents disk.new) (manifest_name self.old.number) }
+        ensures later { D.fault_count disk.old ≤ D.fault_count disk.new }
+        ensures failed { result ≡ Err CommitError.Disk → Rose (D.fault_count disk.old) (D.fault_count disk.new) }
+    {
+        // All that may be refused, and all memory, comes before the append: behind it nothing may fail.
+        let prepared = version.prepare(alloc, edit)?;
+        let payload = spelled(alloc, edit)?;
+        append(&mut self.log, disk, payload.as_slice())?;
+        version.install(prepared);
+        Ok(())
+    }
+
+    /// Draws numbers that follow one another from the answer, as many as are asked for. Where the reserved ones don't reach,
+    /// blocks of 64 are reserved before, one by one, each by an edit of its own.
+    ///
+    /// After an error none is drawn, and the blocks that were reserved stay so. `Spent` comes exactly where the last block
+    /// that is wanted would end at 2^62 or above. After `Disk` the manifest is to be opened again.
+    pub fn draw<D: Disk>(
+        &mut self,
+        alloc: Global,
+        disk: &mut D,
+        version: &mut Version,
+        count: u64,
+    ) -> Result<u64, CommitError>
+        requires { D.told ≡ true → EachManifest self.old version.old (D.contents disk.old) }
+        ensures first { IfOk result (λ first. first ≡ self.old.next) }
+        ensures drawn { OnOk result (self.new.next ≡ self.old.next + count) }
+        ensures undrawn { OnErr result (self.new.next ≡ self.old.next) }
+        ensures numbers { (self.new.number ≡ self.old.number) × (self.new.catalogue ≡ self.old.catalogue) }
+        ensures only { OnlyReserves version.old version.new }
+        ensures ends { OnOk result (version.new.five.next ≡ block_end version.old.five.next (self.old.next + count)) }
+        ensures spent { result ≡ Err CommitError.Spent → IsSpent version.old.five.next (self.old.next + count) }
+        ensures unspent { OnOk result (IsSpent version.old.five.next (self.old.next + count) → ⊥) }
+        ensures unbroken { IsFolded version.old → (rule : Broken) → result ≡ Err (CommitError.Broken rule) → ⊥ }
+        ensures kept { D.told ≡ true → (result ≡ Err CommitError.Disk → ⊥) → EachManifest self.new version.new (D.contents disk.new) }
+        ensures crash { D.told ≡ true
+            → EachSays self.old.number self.old.catalogue version.new (with_next (version.new.five.next + BLOCK) version.new) (D.contents disk.new) }
+        ensures others { D.told ≡ true → KeepsOthers (D.contents disk.old) (D.contents disk.new) (manifest_name self.old.number) }
+        ensures later { D.fault_count disk.old ≤ D.fault_count disk.new }
+        ensures failed { result ≡ Err CommitError.Disk → Rose (D.fault_count disk.old) (D.fault_count disk.new) }
+    {
+        let first = self.next;
+        // A number is drawn only once its block is in every image.
+        if let Err(error) = self.reserve(alloc, disk, version, first.saturating_add(count)) {
+            return Err(error);
+        }
+        let Some(next) = first.checked_add(count) else {
+            return Err(CommitError::Spent);
+        };
+        self.next = next;
+        Ok(first)
+    }
+
+    // Reserves blocks until the numbers below the end are reserved.
+    fn reserve<D: Disk>(
+        &mut self,
+        alloc: Global,
+        disk: &mut D,
+        version: &mut Version,
+        end: u64,
+    ) -> Result<(), CommitError>
+        requires { D.told ≡ true → EachManifest self.old version.old (D.contents disk.old) }
+        ensures numbers { SameNumbers self.old self.new }
+        ensures only { OnlyReserves version.old version.new }
+        ensures reached { OnOk result ((end ≤ version.new.five.next) × (version.new.five.next < 2 ^ 64)) }
+        ensures ends { OnOk result (version.new.five.next ≡ block_end version.old.five.next end) }
+        ensures spent { result ≡ Err CommitError.Spent → IsSpent version.old.five.next end }
+        ensures unspent { OnOk result (IsSpent version.old.five.next end → ⊥) }
+        ensures unbroken { IsFolded version.old → (rule : Broken) → result ≡ Err (CommitError.Broken rule) → ⊥ }
+        ensures kept { D.told ≡ true → (result ≡ Err CommitError.Disk → ⊥) → EachManifest self.new version.new (D.contents disk.new) }
+        ensures crash { D.told ≡ true
+            → EachSays self.old.number self.old.catalogue version.new (with_next (version.new.five.next + BLOCK) version.new) (D.contents disk.new) }
+        ensures others { D.told ≡ true → KeepsOthers (D.contents disk.old) (D.contents disk.new) (manifest_name self.old.number) }
+        ensures later { D.fault_count disk.old ≤ D.fault_count disk.new }
+        ensures failed { result ≡ Err CommitError.Disk → Rose (D.fault_count disk.old) (D.fault_count disk.new) }
+    {
+        while version.five().next < end {
+            self.reserve_block(alloc, disk, version)?;
+        }
+        Ok(())
+    }
+
+    fn reserve_block<D: Disk>(
+        &mut self,
+        alloc: Global,
+        disk: &mut D,
+        version: &mut Version,
+    ) -> Result<(), CommitError>
+        requires { D.told ≡ true → EachManifest self.old version.old (D.contents disk.old) }
+        ensures numbers { SameNumbers self.old self.new }
+        ensures ok { OnOk result (version.new ≡ with_next (version.old.five.next + BLOCK) version.old) }
+        ensures low { OnOk result (version.old.five.next + BLOCK < 2 ^ 62) }
+        ensures folded { OnOk result (IsFolded version.old → IsFolded version.new) }
+        ensures same { OnErr result (version.new ≡ version.old) }
+        ensures spent { result ≡ Err CommitError.Spent → 2 ^ 62 ≤ version.old.five.next + BLOCK }
+        ensures unbroken { IsFolded version.old → (rule : Broken) → result ≡ Err (CommitError.Broken rule) → ⊥ }
+        ensures kept { D.told ≡ true → (result ≡ Err CommitError.Disk → ⊥) → EachManifest self.new version.new (D.contents disk.new) }
+        ensures crash { D.told ≡ true
+            → EachSays self.old.number self.old.catalogue version.new (with_next (version.new.five.next + BLOCK) version.new) (D.contents disk.new) }
+        ensures others { D.told ≡ true → KeepsOthers (D.contents disk.old) (D.contents disk.new) (manifest_name self.old.number) }
+        ensures later { D.fault_count disk.old ≤ D.fault_count disk.new }
+        ensures failed { result ≡ Err CommitError.Disk → Rose (D.fault_count disk.old) (D.fault_count disk.new) }
+    {
+        let next = version.five().next;
+        if next >= NUMBERS - BLOCK {
+            return Err(CommitError::Spent);
+        }
+        let edit = reserve_below(alloc, next + BLOCK);
+        match self.commit(alloc, disk, version, &edit) {
+            Ok(()) => Ok(()),
+            Err(error) => Err(error),
+        }
+    }
+}

@@ -47,34 +47,34 @@ fn is_virtual(v: &Virtual) -> bool
 fn are_physical(physical: &[Physical]) -> bool
     ensures { IsTrue result → All IsPhysical physical.now }
 {
-    for p in physical {
-        if !is_physical(p) {
-            return false;
-        }
+    match physical {
+        [] => true,
+        [first, rest @ ..] => is_physical(first) && are_physical(rest),
     }
-    true
 }
 
 fn are_virtual(virtuals: &[Virtual]) -> bool
     ensures { IsTrue result → All IsVirtual virtuals.now }
 {
-    for v in virtuals {
-        if !is_virtual(v) {
-            return false;
-        }
+    match virtuals {
+        [] => true,
+        [first, rest @ ..] => is_virtual(first) && are_virtual(rest),
     }
-    true
+}
+
+fn is_created(created: &Created) -> bool
+    ensures { IsTrue result → IsCreated created.now }
+{
+    created.number < NUMBERS && created.size < NUMBERS
 }
 
 fn are_created(created: &[Created]) -> bool
     ensures { IsTrue result → All IsCreated created.now }
 {
-    for c in created {
-        if c.number >= NUMBERS || c.size >= NUMBERS {
-            return false;
-        }
+    match created {
+        [] => true,
+        [first, rest @ ..] => is_created(first) && are_created(rest),
     }
-    true
 }
 
 #[tactic(auto, using(crate::proofs::KeptFacts::short_ascends))]
@@ -244,20 +244,30 @@ fn carve(alloc: Global, number: u64, size: u64, prefix: &str) -> Result<Draft, F
     Ok(edit)
 }
 
+fn number_at(version: &Version, place: usize) -> Option<u64> {
+    let table = version.tables(0).get(place)?;
+    Some(table.number)
+}
+
+fn size_at(version: &Version, place: usize) -> Option<u64> {
+    let table = version.tables(0).get(place)?;
+    Some(table.size)
+}
+
 #[test]
 fn tables_stand_by_falling_rank(rt: HostRuntime) -> Result<(), Fail> {
     let version = two_tables(rt.alloc())?;
-    let tables = version.tables(0);
-    assert_eq!(rt; tables.len(), 2);
-    assert_eq!(rt; tables[0].number, 5);
-    assert_eq!(rt; tables[1].number, 4);
-    assert_eq!(rt; tables[1].view.bounds.hi(), b"c".as_slice());
+    assert_eq!(rt; version.tables(0).len(), 2);
+    assert_eq!(rt; number_at(&version, 0), Some(5));
+    assert_eq!(rt; number_at(&version, 1), Some(4));
     assert_eq!(rt; version.tables(1).len(), 0);
-    assert_eq!(rt; version.five().next, 64);
+    let five = version.five();
+    assert_eq!(rt; five.next, 64);
     assert_eq!(rt; version.backing(4), None);
     let copy = version.copy(rt.alloc())?;
     assert_eq!(rt; copy.tables(0).len(), 2);
-    assert_eq!(rt; copy.five().log, 3);
+    let copied = copy.five();
+    assert_eq!(rt; copied.log, 3);
     Ok(())
 }
 
@@ -328,7 +338,7 @@ fn rules_on_backings(rt: HostRuntime) -> Result<(), Fail> {
         );
     }
     assert_eq!(rt; version.backing(4), Some(8));
-    assert_eq!(rt; version.tables(0)[1].size, 8);
+    assert_eq!(rt; size_at(&version, 1), Some(8));
     // A virtual table of no backing.
     let mut edit = draft_of(alloc, NOTHING);
     let part = virtual_of(alloc, 7, 7, 9, ("a", "b"), "")?;
@@ -380,8 +390,9 @@ fn rules_on_numbers(rt: HostRuntime) -> Result<(), Fail> {
     ] {
         assert_eq!(rt; broken(alloc, &mut version, draft_of(alloc, five)), want);
     }
-    assert_eq!(rt; version.five().flushed, 5);
-    assert_eq!(rt; version.five().log, 127);
+    let five = version.five();
+    assert_eq!(rt; five.flushed, 5);
+    assert_eq!(rt; five.log, 127);
     Ok(())
 }
 
@@ -423,7 +434,8 @@ fn the_first_rule_is_told(rt: HostRuntime) -> Result<(), Fail> {
     })?;
     assert_eq!(rt; broken(alloc, &mut version, edit), 5);
     assert_eq!(rt; version.tables(0).len(), 2);
-    assert_eq!(rt; version.five().log, 3);
+    let five = version.five();
+    assert_eq!(rt; five.log, 3);
     Ok(())
 }
 
@@ -454,9 +466,9 @@ fn a_snapshot_folds_back(rt: HostRuntime) -> Result<(), Fail> {
     assert!(rt; is_spellable(&snapshot));
     assert!(rt; again.apply(alloc, &snapshot).is_ok());
     assert_eq!(rt; again.tables(0).len(), 2);
-    assert_eq!(rt; again.tables(0)[0].number, 5);
-    assert_eq!(rt; again.tables(0)[1].number, 6);
-    assert_eq!(rt; again.tables(0)[1].size, 8);
+    assert_eq!(rt; number_at(&again, 0), Some(5));
+    assert_eq!(rt; number_at(&again, 1), Some(6));
+    assert_eq!(rt; size_at(&again, 1), Some(8));
     assert_eq!(rt; again.backing(4), Some(8));
     assert_eq!(rt; again.five(), version.five());
     Ok(())

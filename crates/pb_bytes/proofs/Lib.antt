@@ -3,3 +3,4 @@ pub mod VarintLemmas
 pub mod ReadingLemmas
 pub mod Places
 pub mod Examples
+pub mod Lists

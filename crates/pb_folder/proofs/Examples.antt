@@ -29,7 +29,7 @@ use Rattle.pb_version.specs.Edited.{edited}
 use Rattle.pb_version.specs.Rules.{first_broken}
 use Rattle.pb_version.specs.Meaning.{map_of}
 use Rattle.pb_version.specs.Examples.{first_edit, new_store, flush_edit, flushed_store, flushed_table}
-use Rattle.pb_folder.specs.SaysVersion.{SaysVersion}
+use Rattle.pb_version.specs.SaysVersion.{SaysVersion}
 use Rattle.pb_folder.specs.Said.{Said, Says}
 use Rattle.pb_folder.specs.Held.{IsStored, IsMapped}
 use Rattle.pb_folder.specs.StandsFor.{StandsFor}

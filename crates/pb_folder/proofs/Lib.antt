@@ -1,5 +1,4 @@
 pub mod Lists
-pub mod VersionLaws
 pub mod SaidLaws
 pub mod OneMeaning
 pub mod Examples

@@ -13,9 +13,9 @@ use Rattle.pb_payloads.proofs.CataloguedLaws.{one_catalogue}
 use Rattle.pb_payloads.proofs.LoggedLaws.{one_log}
 use Rattle.pb_gate_log.specs.Payloads.{payloads}
 use Rattle.pb_version.specs.Version.{VersionView}
-use Rattle.pb_folder.specs.SaysVersion.{SaysVersion}
+use Rattle.pb_version.specs.SaysVersion.{SaysVersion}
 use Rattle.pb_folder.specs.Said.{Said, Says, HasPayloads}
-use Rattle.pb_folder.proofs.VersionLaws.{one_version}
+use Rattle.pb_version.proofs.SaysLaws.{one_version}
 
 -- the file of these bytes has payloads that are such
 pub has_payloads : (folder : Folder) (name bytes : List ℕ) (list : List (List ℕ)) (AreSuch : List (List ℕ) → Type 0)

@@ -1,4 +1,3 @@
-pub mod SaysVersion
 pub mod Said
 pub mod Held
 pub mod Meaning

@@ -8,7 +8,7 @@ use Rattle.pb_payloads.specs.Catalogue.{Entries, SaysCatalogue, with_id}
 use Rattle.pb_payloads.specs.Log.{LogEntry, SaysLog}
 use Rattle.pb_gate_log.specs.Payloads.{payloads}
 use Rattle.pb_version.specs.Version.{VersionView}
-use Rattle.pb_folder.specs.SaysVersion.{SaysVersion}
+use Rattle.pb_version.specs.SaysVersion.{SaysVersion}
 
 -- the current pointer, the version, the entries of the catalogue that stand, and the commands that aren't in tables yet
 pub record Said : Type 0 where

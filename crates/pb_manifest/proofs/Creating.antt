@@ -17,7 +17,7 @@ use Rattle.pb_version.specs.Edited.{edited}
 use Rattle.pb_version.specs.Rules.{first_broken}
 use Rattle.pb_manifest.specs.Manifest.{ManifestView, manifest_name, pointer_to, payloads_in, SaysFolder, EachManifest, KeepsAllBut}
 use Rattle.pb_manifest.proofs.Folders.{apart, each_has_at, says_of}
-use Rattle.pb_manifest.proofs.Folds.{says_first}
+use Rattle.pb_version.proofs.SaysLaws.{says_first}
 use Rattle.pb_manifest.proofs.Kept.{first_has_next}
 
 -- ---- the number that the first edit reserves

@@ -15,9 +15,9 @@ use Rattle.pb_payloads.specs.Current.{SaysCurrent}
 use Rattle.pb_version.specs.Version.{VersionView}
 use Rattle.pb_version.specs.Edited.{edited}
 use Rattle.pb_version.specs.Rules.{first_broken}
-use Rattle.pb_manifest.specs.SaysVersion.{SaysVersion}
+use Rattle.pb_version.specs.SaysVersion.{SaysVersion}
 use Rattle.pb_manifest.specs.Manifest.{ManifestView, manifest_name, pointer_to, payloads_in, SaysFolder, EachManifest, EachSays}
-use Rattle.pb_manifest.proofs.Folds.{says_more}
+use Rattle.pb_version.proofs.SaysLaws.{says_more}
 use Rattle.pb_manifest.proofs.Kept.{next_stays}
 
 two_names : (number : ℕ) → number < 2 ^ 64 → current ≡ file Manifest number → ⊥

@@ -1,4 +1,4 @@
--- Payloads that fold to a version: one more, the next one, and that they say one version at most.
+-- Payloads that fold to a version: one more, and the next one.
 use Rattle.std.proofs.Common.{◌≡◌, ℕ, suc, get_or, take, drop, drop-cons, ◌<◌, List, [], ◌∷◌, ◌++◌, map, length, None, refl, sym, ◌∙◌, subst, ap}
 use Rattle.std.proofs.lemmas.List.{map-append, take-append-drop}
 use Rattle.std.proofs.lemmas.List.Elements.{All-nil, All-head, All-tail, All-push}
@@ -6,13 +6,12 @@ use Rattle.std.specs.List.{All}
 use Rattle.pb_edit.specs.Edit.{VersionEdit}
 use Rattle.pb_edit.specs.Grammar.{IsEdit, edit_spelling}
 use Rattle.pb_edit.proofs.Edits.{one_edit}
-use Rattle.pb_payloads.proofs.SpellingLaws.{one_list}
 use Rattle.pb_version.specs.Version.{VersionView, empty_version}
 use Rattle.pb_version.specs.Edited.{edited}
 use Rattle.pb_version.specs.Rules.{first_broken}
-use Rattle.pb_version.specs.Fold.{FoldsFrom, FoldsTo}
-use Rattle.pb_version.proofs.FoldLaws.{folds_first, folds_further, folds_to_one}
-use Rattle.pb_manifest.specs.SaysVersion.{SaysVersion}
+use Rattle.pb_version.specs.Fold.{FoldsFrom}
+use Rattle.pb_version.proofs.FoldLaws.{folds_push}
+use Rattle.pb_version.specs.SaysVersion.{SaysVersion}
 use Rattle.pb_manifest.specs.Steps.{Follows}
 
 -- as SaysVersion, and no payload is allowed as well
@@ -42,10 +41,6 @@ nothing_said version says = says.folds.some (no_edit says.edits says.spelled)
 
 -- ---- one more
 
-pub folds_more : (old mid : VersionView) (edits : List VersionEdit) (edit : VersionEdit) → FoldsFrom old edits mid → first_broken mid edit ≡ None → FoldsFrom old (edits ++ edit ∷ []) (edited mid edit)
-folds_more old mid [] edit same unbroken = (ap (λ (v : VersionView). first_broken v edit) same ∙ unbroken, ap (λ (v : VersionView). edited v edit) same)
-folds_more old mid (first ∷ edits) edit folds unbroken = (folds.0, folds_more (edited old first) mid edits edit folds.1 unbroken)
-
 pub folded_more : (payloads : List (List ℕ)) (payload : List ℕ) (old new : VersionView) → FoldedTo payloads old → Follows payload old new → FoldedTo (payloads ++ payload ∷ []) new
 folded_more payloads payload old new folded follows = record {
   edits = folded.edits ++ follows.edit ∷ [];
@@ -53,24 +48,7 @@ folded_more payloads payload old new folded follows = record {
   in_form = All-push IsEdit folded.edits follows.edit folded.in_form follows.in_form;
   folds =
       subst (λ (v : VersionView). FoldsFrom empty_version (folded.edits ++ follows.edit ∷ []) v) (sym follows.after)
-      (folds_more empty_version old folded.edits follows.edit folded.folds follows.unbroken);
-}
-
--- payloads that say a version, and an edit behind them, say the version after it
-pub says_more : (payloads : List (List ℕ)) (version : VersionView) (edit : VersionEdit) → SaysVersion payloads version → IsEdit edit → first_broken version edit ≡ None → SaysVersion (payloads ++ edit_spelling edit ∷ []) (edited version edit)
-says_more payloads version edit says in_form unbroken = record {
-  edits = says.edits ++ edit ∷ [];
-  spelled = ap (λ (front : List (List ℕ)). front ++ edit_spelling edit ∷ []) says.spelled ∙ sym (map-append edit_spelling says.edits (edit ∷ []));
-  in_form = All-push IsEdit says.edits edit says.in_form in_form;
-  folds = folds_further says.edits version edit says.folds unbroken;
-}
-
-pub says_first : (edit : VersionEdit) → IsEdit edit → first_broken empty_version edit ≡ None → SaysVersion (edit_spelling edit ∷ []) (edited empty_version edit)
-says_first edit in_form unbroken = record {
-  edits = edit ∷ [];
-  spelled = refl;
-  in_form = All-push IsEdit [] edit (All-nil IsEdit) in_form;
-  folds = folds_first edit unbroken;
+      (folds_push empty_version folded.edits old follows.edit folded.folds follows.unbroken);
 }
 
 -- ---- the next one
@@ -113,10 +91,3 @@ next_from payloads payload i version last within is so_far says =
     ∙ ap (λ (back : List (List ℕ)). take i payloads ++ back) (ap (λ (p : List ℕ). p ∷ drop (suc i) payloads) is ∙ sym (drop-cons payloads i payload within))
     ∙ take-append-drop i payloads
     ∙ says.spelled)
-
--- ---- one version
-
-pub one_version : (payloads : List (List ℕ)) (one other : VersionView) → SaysVersion payloads one → SaysVersion payloads other → one ≡ other
-one_version payloads one other a b =
-    let same = one_list IsEdit edit_spelling one_edit a.edits b.edits a.in_form b.in_form (sym a.spelled ∙ b.spelled) in
-    folds_to_one a.edits one other a.folds (subst (λ (edits : List VersionEdit). FoldsTo edits other) (sym same) b.folds)

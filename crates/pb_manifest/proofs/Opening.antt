@@ -17,7 +17,7 @@ use Rattle.pb_version.specs.Version.{VersionView}
 use Rattle.pb_manifest.specs.Manifest.{ManifestView, EachManifest, manifest_name, payloads_in, pointer_to}
 use Rattle.pb_manifest.specs.Found.{HasVersion, IsAmiss, IsDamaged, IsNew, KeepsPayloads, Names, SameOrSaid}
 use Rattle.pb_manifest.proofs.Folders.{apart}
-use Rattle.pb_manifest.proofs.Folds.{one_version}
+use Rattle.pb_version.proofs.SaysLaws.{one_version}
 
 -- ---- the last payload
 

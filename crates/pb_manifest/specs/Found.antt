@@ -5,7 +5,7 @@ use Rattle.pb_gate_log.specs.Payloads.{HasList}
 use Rattle.pb_names.specs.Spelling.{current_name}
 use Rattle.pb_payloads.specs.Current.{Pointer, SaysCurrent}
 use Rattle.pb_version.specs.Version.{VersionView}
-use Rattle.pb_manifest.specs.SaysVersion.{SaysVersion}
+use Rattle.pb_version.specs.SaysVersion.{SaysVersion}
 use Rattle.pb_manifest.specs.Manifest.{catalogue_name, manifest_name, payloads_in}
 
 -- the folder of a new store: the current pointer is absent, or has no payload

@@ -1,4 +1,3 @@
-pub mod SaysVersion
 pub mod Manifest
 pub mod Judged
 pub mod Numbers

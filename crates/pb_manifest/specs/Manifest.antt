@@ -7,7 +7,7 @@ use Rattle.pb_names.specs.Spelling.{current_name, file_name}
 use Rattle.pb_names.specs.declared.file_kind.FileKind.TheVariants.{Manifest, Catalogue}
 use Rattle.pb_payloads.specs.Current.{Pointer, SaysCurrent}
 use Rattle.pb_version.specs.Version.{VersionView}
-use Rattle.pb_manifest.specs.SaysVersion.{SaysVersion}
+use Rattle.pb_version.specs.SaysVersion.{SaysVersion}
 
 -- the numbers of the manifest and of the catalogue, the number that is drawn next, and the two logs that are open
 pub record ManifestView : Type 0 where

@@ -2,7 +2,7 @@ ghost use Rattle.std.specs.Prelude.{◌≡◌, true, false, None, IfNone, IfOk, 
 ghost use Rattle.pb_edit.specs.Edit.{VersionEdit};
 ghost use Rattle.pb_edit.specs.Grammar.{IsEdit, edit_spelling};
 ghost use Rattle.pb_manifest.specs.Steps.{Follows};
-ghost use Rattle.pb_manifest.specs.SaysVersion.{SaysVersion};
+ghost use Rattle.pb_version.specs.SaysVersion.{SaysVersion};
 ghost use Rattle.pb_version.specs.Rules.{first_broken};
 ghost use Rattle.pb_version.specs.Version.{VersionView};
 

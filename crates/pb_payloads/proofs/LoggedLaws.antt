@@ -11,7 +11,8 @@ use Rattle.pb_keys.specs.Span.{KeySpan, IsSpan, IsEnd}
 use Rattle.pb_payloads.specs.Logged.{Logged, Waiting, IsContent, IsLogged, kind_of, content_of, command_spelling, logged_spelling, ends_spelling, removed_spelling, waiting_spelling}
 use Rattle.pb_payloads.specs.Logged.Logged.{Set, Del, DelRange, Ingest}
 use Rattle.pb_payloads.specs.Log.{LogEntry, IsEntry, RiseAbove, SaysLog, entry_spelling, last_count}
-use Rattle.pb_payloads.proofs.SpellingLaws.{same_first, same_rest, one_last_field, two_fields, one_list}
+use Rattle.pb_bytes.proofs.Lists.{one_list}
+use Rattle.pb_payloads.proofs.SpellingLaws.{same_first, same_rest, one_last_field, two_fields}
 
 key_fits : (key : List ℕ) → IsKey key → length key < 2 ^ 64
 key_fits key in_form = omega (arith, in_form.within)

@@ -1,8 +1,6 @@
 -- Parts of a spelling determine what they spell.
-use Rattle.std.proofs.Common.{◌≡◌, ℕ, ◌^◌, ◌<◌, List, [], ◌∷◌, ◌++◌, length, map, refl, sym, ◌∙◌}
-use Rattle.std.specs.List.{All}
+use Rattle.std.proofs.Common.{◌≡◌, ℕ, ◌^◌, ◌<◌, List, [], ◌∷◌, ◌++◌, length, sym, ◌∙◌}
 use Rattle.std.proofs.lemmas.List.{append-nil}
-use Rattle.std.proofs.lemmas.List.Elements.{All-head, All-tail}
 use Rattle.pb_bytes.specs.Varint.{varint, field}
 use Rattle.pb_bytes.proofs.ReadingLemmas.{one_varint, one_field}
 
@@ -29,16 +27,3 @@ pub two_fields : (a b c d : List ℕ) → length a < 2 ^ 64 → length b < 2 ^ 6
 two_fields a b c d a_fits b_fits c_fits d_fits same =
     let first = one_field a c (field b) (field d) a_fits c_fits same in
     (first.0, one_last_field b d b_fits d_fits first.1)
-
--- where each item has one spelling, so does a list of them
-module _ {X : Type 0} (P : X → Type 0) (spelling : X → List ℕ) (one : (x y : X) → P x → P y → spelling x ≡ spelling y → x ≡ y) where
-  pub one_list : (xs ys : List X) → All P xs → All P ys → map spelling xs ≡ map spelling ys → xs ≡ ys
-  one_list [] [] xs_are ys_are same = refl
-  one_list [] (y ∷ ys) xs_are ys_are same = cc
-  one_list (x ∷ xs) [] xs_are ys_are same = cc
-  one_list (x ∷ xs) (y ∷ ys) xs_are ys_are same =
-      let first_spelling : spelling x ≡ spelling y = cc in
-      let rest_spelling : map spelling xs ≡ map spelling ys = cc in
-      let first = one x y (All-head P x xs xs_are) (All-head P y ys ys_are) first_spelling in
-      let rest = one_list xs ys (All-tail P x xs xs_are) (All-tail P y ys ys_are) rest_spelling in
-      cc

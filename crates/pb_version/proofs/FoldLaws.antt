@@ -7,7 +7,7 @@ use Rattle.pb_version.specs.Edited.{edited}
 use Rattle.pb_version.specs.Rules.{first_broken}
 use Rattle.pb_version.specs.Fold.{FoldsFrom, FoldsTo}
 
-folds_push : (old : VersionView) (edits : List VersionEdit) (version : VersionView) (edit : VersionEdit) →
+pub folds_push : (old : VersionView) (edits : List VersionEdit) (version : VersionView) (edit : VersionEdit) →
     FoldsFrom old edits version → first_broken version edit ≡ None → FoldsFrom old (edits ++ edit ∷ []) (edited version edit)
 folds_push old [] version edit folds unbroken =
     (subst (λ v. first_broken v edit ≡ None) (sym folds) unbroken, ap (λ v. edited v edit) folds)

@@ -7,6 +7,7 @@ pub mod Installing
 pub mod Judging
 pub mod Spelling
 pub mod FoldLaws
+pub mod SaysLaws
 pub mod MeaningLaws
 pub mod Commute
 pub mod Kept

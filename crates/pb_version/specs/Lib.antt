@@ -2,6 +2,7 @@ pub mod Version
 pub mod Edited
 pub mod Rules
 pub mod Fold
+pub mod SaysVersion
 pub mod Meaning
 pub mod Snapshot
 pub mod Examples

@@ -5,13 +5,14 @@ use Rattle.std.proofs.lemmas.List.{map-append}
 use Rattle.std.proofs.lemmas.List.Elements.{All-nil, All-cons, All-append}
 use Rattle.pb_bytes.specs.Varint.{varint}
 use Rattle.pb_bytes.proofs.ReadingLemmas.{one_varint}
+use Rattle.pb_bytes.proofs.Lists.{one_list}
 use Rattle.pb_names.specs.Grammar.{IsName}
 use Rattle.pb_names.specs.Identity.{Identity, IsObject}
 use Rattle.pb_payloads.specs.Catalogued.{Catalogued, IsContent, IsCatalogued, kind_of, content_of, catalogued_spelling}
 use Rattle.pb_payloads.specs.Catalogued.Catalogued.{Id, Entered, Dropped}
 use Rattle.pb_payloads.specs.Catalogued.Standing.{Shared, External}
 use Rattle.pb_payloads.specs.Catalogue.{Catalogue, Entries, SaysCatalogue, folded, with_id, entries_after, entries_from}
-use Rattle.pb_payloads.proofs.SpellingLaws.{same_first, same_rest, one_last_varint, one_last_field, one_list}
+use Rattle.pb_payloads.proofs.SpellingLaws.{same_first, same_rest, one_last_varint, one_last_field}
 
 same_object : (o p : Identity) → o.creator ≡ p.creator → o.number ≡ p.number → o ≡ p
 same_object o p creator number = λ i. record { creator = creator i; number = number i }

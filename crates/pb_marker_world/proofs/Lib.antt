@@ -9,4 +9,8 @@ pub mod Crashes
 pub mod Steady
 pub mod Lists
 pub mod Books
+pub mod Asked
 pub mod Done
+pub mod StoreEvents
+pub mod Refused
+pub mod Answers

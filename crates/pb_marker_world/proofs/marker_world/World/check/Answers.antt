@@ -8,7 +8,9 @@ use Rattle.pb_marker_world.specs.Steps.{settled}
 use Rattle.pb_marker_world.specs.Book.{Book, written}
 use Rattle.pb_marker_world.specs.Events.{placed_in, lender_in}
 use Rattle.pb_marker_world.specs.Found.{IsFoundAt}
-use Rattle.pb_marker_world.proofs.Done.{check_none, check_stage, check_done, done_as}
+use Rattle.pb_marker_world.proofs.Refused.{check_none, check_stage}
+use Rattle.pb_marker_world.proofs.Done.{check_done}
+use Rattle.pb_marker_world.proofs.Answers.{done_as}
 use Rattle.pb_marker_world.proofs.marker_world.World.check.Goals as goal
 
 pub returns-in-None : goal.returns-in-None

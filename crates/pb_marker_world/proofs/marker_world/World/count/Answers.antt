@@ -9,7 +9,9 @@ use Rattle.pb_marker_world.specs.Steps.{at_stage}
 use Rattle.pb_marker_world.specs.Book.{Book, written}
 use Rattle.pb_marker_world.specs.Events.{placed_in}
 use Rattle.pb_marker_world.specs.Found.{IsFoundAt}
-use Rattle.pb_marker_world.proofs.Done.{count_none, count_stage, count_done, done_as}
+use Rattle.pb_marker_world.proofs.Refused.{count_none, count_stage}
+use Rattle.pb_marker_world.proofs.Done.{count_done}
+use Rattle.pb_marker_world.proofs.Answers.{done_as}
 use Rattle.pb_marker_world.proofs.marker_world.World.count.Goals as goal
 
 pub returns-in-None : goal.returns-in-None

@@ -5,7 +5,8 @@ use Rattle.pb_marker_world.specs.declared.events.Event.TheVariants.{Crash}
 use Rattle.pb_marker_world.specs.Steps.{is_held_entry}
 use Rattle.pb_marker_world.specs.Book.{Book, entry_in, opening_in, loosened}
 use Rattle.pb_marker_world.specs.Events.{HasRoom, is_of, number_at}
-use Rattle.pb_marker_world.proofs.Done.{crash_done, done_as}
+use Rattle.pb_marker_world.proofs.StoreEvents.{crash_done}
+use Rattle.pb_marker_world.proofs.Answers.{done_as}
 use Rattle.pb_marker_world.proofs.marker_world.World.crash.Goals as goal
 
 pub returns : goal.returns

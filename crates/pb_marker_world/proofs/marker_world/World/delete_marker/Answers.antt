@@ -7,7 +7,9 @@ use Rattle.pb_marker_world.specs.Steps.{protects}
 use Rattle.pb_marker_world.specs.Book.{Book, opening_in, written}
 use Rattle.pb_marker_world.specs.Events.{placed_in}
 use Rattle.pb_marker_world.specs.Found.{IsFoundAt}
-use Rattle.pb_marker_world.proofs.Done.{delete_marker_none, delete_marker_stage, delete_marker_lent, delete_marker_done, settled_stage, done_as}
+use Rattle.pb_marker_world.proofs.Refused.{delete_marker_none, delete_marker_stage, delete_marker_lent, settled_stage}
+use Rattle.pb_marker_world.proofs.Done.{delete_marker_done}
+use Rattle.pb_marker_world.proofs.Answers.{done_as}
 use Rattle.pb_marker_world.proofs.marker_world.World.delete_marker.Goals as goal
 
 pub returns-in-None : goal.returns-in-None

@@ -7,7 +7,9 @@ use Rattle.pb_marker_world.specs.Machine.{Entry, same_identity}
 use Rattle.pb_marker_world.specs.Book.{Book, written}
 use Rattle.pb_marker_world.specs.Events.{placed_in}
 use Rattle.pb_marker_world.specs.Found.{IsFoundAt}
-use Rattle.pb_marker_world.proofs.Done.{delete_object_none, delete_object_stage, delete_object_done, done_as}
+use Rattle.pb_marker_world.proofs.Refused.{delete_object_none, delete_object_stage}
+use Rattle.pb_marker_world.proofs.Done.{delete_object_done}
+use Rattle.pb_marker_world.proofs.Answers.{done_as}
 use Rattle.pb_marker_world.proofs.marker_world.World.delete_object.Goals as goal
 
 pub returns-in-None : goal.returns-in-None

@@ -3,7 +3,9 @@ use Rattle.pb_marker_world.specs.declared.events.Event.TheVariants.{Drop}
 use Rattle.pb_marker_world.specs.Book.{Book, written}
 use Rattle.pb_marker_world.specs.Events.{placed_in}
 use Rattle.pb_marker_world.specs.Found.{IsFoundAt}
-use Rattle.pb_marker_world.proofs.Done.{drop_none, drop_stage, drop_done, done_as}
+use Rattle.pb_marker_world.proofs.Refused.{drop_none, drop_stage}
+use Rattle.pb_marker_world.proofs.Done.{drop_done}
+use Rattle.pb_marker_world.proofs.Answers.{done_as}
 use Rattle.pb_marker_world.proofs.marker_world.World.drop_entry.Goals as goal
 
 pub returns-in-None : goal.returns-in-None

@@ -2,7 +2,8 @@ use Rattle.std.proofs.Common.{true, refl, ap, subst}
 use Rattle.pb_marker_world.specs.declared.events.Event.TheVariants.{DropHandle}
 use Rattle.pb_marker_world.specs.Book.{Book}
 use Rattle.pb_marker_world.specs.Found.{IsClosed}
-use Rattle.pb_marker_world.proofs.Done.{drop_handle_done, done_as}
+use Rattle.pb_marker_world.proofs.StoreEvents.{drop_handle_done}
+use Rattle.pb_marker_world.proofs.Answers.{done_as}
 use Rattle.pb_marker_world.proofs.marker_world.World.drop_handle.Goals as goal
 
 pub returns : goal.returns

@@ -7,7 +7,8 @@ use Rattle.pb_marker_world.specs.Machine.{same_identity}
 use Rattle.pb_marker_world.specs.Book.{Book, is_used_in}
 use Rattle.pb_marker_world.specs.Events.{lent_in}
 use Rattle.pb_marker_world.proofs.Tests.{identity_is, identity_self}
-use Rattle.pb_marker_world.proofs.Done.{intend_lent_used, intend_lent_none, intend_lent_refused, intend_lent_done, done_as}
+use Rattle.pb_marker_world.proofs.StoreEvents.{intend_lent_used, intend_lent_none, intend_lent_refused, intend_lent_done}
+use Rattle.pb_marker_world.proofs.Answers.{done_as}
 use Rattle.pb_marker_world.proofs.marker_world.World.intend_lent.Goals as goal
 
 pub returns-then-is_used : goal.returns-then-is_used

@@ -6,7 +6,8 @@ use Rattle.pb_marker_world.specs.declared.events.Outcome.TheVariants.{Entry as N
 use Rattle.pb_marker_world.specs.Machine.{identity, same_identity}
 use Rattle.pb_marker_world.specs.Book.{Book, is_used_in}
 use Rattle.pb_marker_world.proofs.Tests.{identity_is, identity_self}
-use Rattle.pb_marker_world.proofs.Done.{intend_own_used, intend_own_refused, intend_own_done, done_as}
+use Rattle.pb_marker_world.proofs.StoreEvents.{intend_own_used, intend_own_refused, intend_own_done}
+use Rattle.pb_marker_world.proofs.Answers.{done_as}
 use Rattle.pb_marker_world.proofs.marker_world.World.intend_own.Goals as goal
 
 pub returns-then-is_used : goal.returns-then-is_used

@@ -7,7 +7,8 @@ use Rattle.pb_marker_world.specs.Machine.{own_marker}
 use Rattle.pb_marker_world.specs.Steps.{is_held_entry}
 use Rattle.pb_marker_world.specs.Book.{Book, entry_in, opening_in}
 use Rattle.pb_marker_world.specs.Events.{is_of, number_at}
-use Rattle.pb_marker_world.proofs.Done.{lend_done, done_as}
+use Rattle.pb_marker_world.proofs.StoreEvents.{lend_done}
+use Rattle.pb_marker_world.proofs.Answers.{done_as}
 use Rattle.pb_marker_world.proofs.marker_world.World.lend.Goals as goal
 
 pub returns : goal.returns

@@ -1,4 +1,4 @@
-use Rattle.pb_marker_world.proofs.Done.{new_steady}
+use Rattle.pb_marker_world.proofs.Answers.{new_steady}
 use Rattle.pb_marker_world.proofs.marker_world.World.new.Goals as goal
 
 pub returns-clause-steady : goal.returns-clause-steady

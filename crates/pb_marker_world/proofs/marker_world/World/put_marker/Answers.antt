@@ -5,7 +5,9 @@ use Rattle.pb_marker_world.specs.Machine.{Entry}
 use Rattle.pb_marker_world.specs.Book.{Book, written}
 use Rattle.pb_marker_world.specs.Events.{placed_in}
 use Rattle.pb_marker_world.specs.Found.{IsFoundAt}
-use Rattle.pb_marker_world.proofs.Done.{put_marker_none, put_marker_stage, put_marker_done, done_as}
+use Rattle.pb_marker_world.proofs.Refused.{put_marker_none, put_marker_stage}
+use Rattle.pb_marker_world.proofs.Done.{put_marker_done}
+use Rattle.pb_marker_world.proofs.Answers.{done_as}
 use Rattle.pb_marker_world.proofs.marker_world.World.put_marker.Goals as goal
 
 pub returns-in-None : goal.returns-in-None

@@ -7,7 +7,9 @@ use Rattle.pb_marker_world.specs.Machine.{Marker, Entry}
 use Rattle.pb_marker_world.specs.Book.{Book, written}
 use Rattle.pb_marker_world.specs.Events.{placed_in}
 use Rattle.pb_marker_world.specs.Found.{IsFoundAt}
-use Rattle.pb_marker_world.proofs.Done.{put_object_none, put_object_stage, put_object_lender, put_object_done, no_lender_of, done_as}
+use Rattle.pb_marker_world.proofs.Refused.{put_object_none, put_object_stage, put_object_lender, no_lender_of}
+use Rattle.pb_marker_world.proofs.Done.{put_object_done}
+use Rattle.pb_marker_world.proofs.Answers.{done_as}
 use Rattle.pb_marker_world.proofs.marker_world.World.put_object.Goals as goal
 
 pub returns-in-None : goal.returns-in-None

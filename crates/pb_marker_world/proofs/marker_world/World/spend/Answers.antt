@@ -2,7 +2,8 @@ use Rattle.std.proofs.Common.{[], ◌∷◌, ◌++◌, refl, sym, ap, ◌∙◌}
 use Rattle.std.proofs.lemmas.Result.{err_from_is_err_and}
 use Rattle.pb_marker_world.specs.declared.events.Event.TheVariants.{Spend}
 use Rattle.pb_marker_world.specs.Book.{Book, is_used_in}
-use Rattle.pb_marker_world.proofs.Done.{spend_refused, spend_done, done_as}
+use Rattle.pb_marker_world.proofs.StoreEvents.{spend_refused, spend_done}
+use Rattle.pb_marker_world.proofs.Answers.{done_as}
 use Rattle.pb_marker_world.proofs.marker_world.World.spend.Goals as goal
 
 pub returns-then-is_used : goal.returns-then-is_used

@@ -1,4 +1,4 @@
-use Rattle.pb_marker_world.proofs.Done.{meets_steady}
+use Rattle.pb_marker_world.proofs.Answers.{meets_steady}
 use Rattle.pb_marker_world.proofs.marker_world.World.step.Goals as goal
 
 pub returns-clause-steady : goal.returns-clause-steady

@@ -1,12 +1,13 @@
 -- What stands after an edit that was made ready is the version after the edit.
 use Rattle.std.proofs.Common.{◌≡◌, ◌+◌, ◌≤◌, List, Bool, true, false, cond, length, refl, ap, sym, ◌∙◌, subst, arith, ℕ, [], ◌∷◌, get_or, eq-eqb}
 use Rattle.std.proofs.lemmas.List.Folds.{list_all-map, list_all-append, list_any_at}
+use Rattle.std.proofs.lemmas.List.Elements.{recursion_from_All}
 use Rattle.std.proofs.lemmas.List.Sums.{list_all-from_AllPass}
 use Rattle.std.specs.Option.{unwrap_or}
 use Rattle.std.specs.Prelude.{not, nat_lt, nat_le, Option, Some, None, ◌&&◌, ◌||◌, ◌==◌, map}
-use Rattle.std.specs.List.{filter, list_any, list_all}
+use Rattle.std.specs.List.{filter, list_any, list_all, AllByRecursion}
 use Rattle.pb_edit.specs.Edit.{DeletedItem, PhysicalItem, VirtualItem, CreatedItem, VersionEdit}
-use Rattle.pb_edit.specs.Grammar.{created_below}
+use Rattle.pb_edit.specs.Grammar.{IsNumber, IsPhysical, IsCreated, created_below}
 use Rattle.pb_version.specs.declared.broken.Broken.{Broken}
 use Rattle.pb_version.specs.declared.broken.Broken.TheVariants.{V1, V2, V3, V4, V5, V6, V7, V8, V9}
 use Rattle.pb_version.specs.Version.{TableView, FiveNumbers, VersionView, all_tables, size_of}
@@ -16,8 +17,8 @@ use Rattle.pb_version.specs.State.{IsVersion, IsSpellable, PreparedEdit, Prepare
 use Rattle.pb_version.specs.LevelZero.{flat, goes}
 use Rattle.pb_version.proofs.Lists.{left, right, or_true, or_false, same_number, list_all_filter, length_all_placed, list_all_all_placed}
 use Rattle.pb_version.proofs.Flat.{all_after, new_at_zero, has_after, of_backing}
-use Rattle.pb_version.proofs.Commute.{sorted_all_placed}
-use Rattle.pb_version.proofs.KeptFacts.{below_more, below_more_one, both_all, any_gives, size_kept, size_shown, ranks_of, backings_chain, ascending_differ, none_differ}
+use Rattle.pb_version.proofs.Commute.{each_filter, each_all_placed, sorted_all_placed}
+use Rattle.pb_version.proofs.KeptFacts.{below_more, below_more_one, both_all, any_gives, size_kept, size_shown, sizes_of_new, created_sizes, numbers_after, ranks_of, backings_chain, ascending_differ, none_differ}
 use Rattle.pb_version.proofs.Kept.{tables_chain, all_tables_differ, tables_differ_from}
 use Rattle.pb_version.proofs.Pairs.{filter_keeps, pairs_filter, pairs_all_placed, weaker, apart_turned, other_turned, others, distinct_numbers, numbers_of}
 
@@ -302,6 +303,15 @@ module _ (tables : List TableView) (backings : List CreatedItem) (five : FiveNum
   all_formed : list_all (is_formed after) (all_placed (comes_before 0) new stay) ≡ true
   all_formed = list_all_all_placed (is_formed after) (comes_before 0) new stay ∙ (λ i. new_formed i && stay_formed i)
 
+  shown_sizes : AllByRecursion (λ (b : CreatedItem). IsNumber b.size) shown
+  shown_sizes = each_all_placed (λ (b : CreatedItem). IsNumber b.size) created_below edit.created backings
+      (created_sizes edit.created (recursion_from_All IsCreated edit.created spellable.created)) is.backing_sizes
+
+  all_sizes : AllByRecursion (λ (t : TableView). IsNumber t.size) (all_placed (comes_before 0) new stay)
+  all_sizes = each_all_placed (λ (t : TableView). IsNumber t.size) (comes_before 0) new stay
+      (sizes_of_new shown edit.physical edit.virtuals (recursion_from_All IsPhysical edit.physical spellable.physical) shown_sizes)
+      (each_filter (λ (t : TableView). IsNumber t.size) (λ t. not (goes edit.deleted t)) tables is.sizes)
+
   then_fits : ((five_after five edit).format == 0 || fit_each_other (five_after five edit)) ≡ true
   then_fits =
       let e = right (none_falls five (five_after five edit)) (fit_each_other (five_after five edit))
@@ -313,6 +323,7 @@ module _ (tables : List TableView) (backings : List CreatedItem) (five : FiveNum
   edited_is_version =
       let all = sym (all_after tables backings five edit spellable) in
       record {
+        levels = refl;
         numbered = subst (λ ts. each_pair other_number ts ≡ true) all all_numbered;
         views = subst (λ ts. list_all (λ (t : TableView). is_view t.view) ts ≡ true) all all_views;
         apart = ap (λ b. b && true) (subst (λ ts. are_all_apart 0 ts ≡ true) all all_apart);
@@ -327,6 +338,9 @@ module _ (tables : List TableView) (backings : List CreatedItem) (five : FiveNum
         backed = keeps.v6;
         shown = right (list_all (has_backing backings) edit.removed)
             (list_all (λ b. is_shown (all_tables (edited (flat tables backings five) edit)) b.number) (backings_after (flat tables backings five) edit)) keeps.v7;
+        numbers = numbers_after five edit is.numbers spellable;
+        sizes = subst (AllByRecursion (λ (t : TableView). IsNumber t.size)) all all_sizes;
+        backing_sizes = each_filter (λ (b : CreatedItem). IsNumber b.size) (λ b. not (is_removed edit b.number)) shown shown_sizes;
       }
 
 module _ (tables : List TableView) (backings : List CreatedItem) (five : FiveNumbers) (edit : VersionEdit) (p : PreparedEdit)

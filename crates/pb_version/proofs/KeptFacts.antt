@@ -2,13 +2,15 @@
 use Rattle.std.proofs.Common.{◌≡◌, ℕ, ◌≤◌, List, [], ◌∷◌, ◌++◌, length, Bool, true, false, cond, refl, ap, sym, ◌∙◌, arith}
 use Rattle.std.proofs.lemmas.Bool.Decides.{nat_tests}
 use Rattle.std.proofs.lemmas.List.{map-append}
-use Rattle.std.specs.Prelude.{not, ◌==◌, ◌&&◌, ◌||◌, nat_lt, nat_le, Some, None, map}
+use Rattle.std.specs.Prelude.{not, ◌==◌, ◌&&◌, ◌||◌, nat_lt, nat_le, Option, Some, None, IfSome, map}
 use Rattle.std.specs.List.{filter, list_any, list_all, AllByRecursion}
-use Rattle.pb_edit.specs.Edit.{PhysicalItem, VirtualItem, CreatedItem}
-use Rattle.pb_edit.specs.Grammar.{created_below, Ascend}
-use Rattle.pb_version.specs.Version.{TableView, size_of}
-use Rattle.pb_version.specs.Edited.{placed, all_placed, physical_table, virtual_table, tables_of}
+use Rattle.std.specs.Option.{unwrap_or}
+use Rattle.pb_edit.specs.Edit.{PhysicalItem, VirtualItem, CreatedItem, VersionEdit}
+use Rattle.pb_edit.specs.Grammar.{IsNumber, IsPhysical, IsCreated, created_below, Ascend}
+use Rattle.pb_version.specs.Version.{TableView, FiveNumbers, size_of}
+use Rattle.pb_version.specs.Edited.{placed, all_placed, physical_table, virtual_table, tables_of, five_after}
 use Rattle.pb_version.specs.Rules.{has_backing}
+use Rattle.pb_version.specs.State.{AreNumbers, IsSpellable}
 use Rattle.pb_version.proofs.Lists.{left, right, same_number}
 use Rattle.pb_version.proofs.Commute.{Differ, AllDiffer, IsTransitive}
 
@@ -143,6 +145,50 @@ size_shown f [] bs n e = refl
 size_shown f (c ∷ cs) bs n e =
     size_placed f c (all_placed f cs bs) n (neither_left (c.number == n) (has_backing cs n) e)
     ∙ size_shown f cs bs n (neither_right (c.number == n) (has_backing cs n) e)
+
+pub size_number : (bs : List CreatedItem) (n : ℕ) → AllByRecursion (λ b. IsNumber b.size) bs → IsNumber (unwrap_or (size_of bs n) 0)
+size_number [] n all = omega arith
+size_number (b ∷ bs) n all =
+    elim (b.number == n) as (λ t. IsNumber (unwrap_or (cond t (Some b.size) (size_of bs n)) 0)) [
+      | true ↦ all.0
+      | false ↦ size_number bs n all.1
+    ]
+
+physical_sizes : (ps : List PhysicalItem) → AllByRecursion IsPhysical ps → AllByRecursion (λ (t : TableView). IsNumber t.size) (map physical_table ps)
+physical_sizes [] all = tt
+physical_sizes (p ∷ ps) all = (all.0.size, physical_sizes ps all.1)
+
+virtual_sizes : (bs : List CreatedItem) (vs : List VirtualItem) → AllByRecursion (λ b. IsNumber b.size) bs →
+    AllByRecursion (λ (t : TableView). IsNumber t.size) (map (virtual_table bs) vs)
+virtual_sizes bs [] all = tt
+virtual_sizes bs (v ∷ vs) all = (size_number bs v.backing all, virtual_sizes bs vs all)
+
+each_append : {X : Type 0} (P : X → Type 0) (xs ys : List X) → AllByRecursion P xs → AllByRecursion P ys → AllByRecursion P (xs ++ ys)
+each_append P [] ys a b = b
+each_append P (x ∷ xs) ys a b = (a.0, each_append P xs ys a.1 b)
+
+pub sizes_of_new : (shown : List CreatedItem) (ps : List PhysicalItem) (vs : List VirtualItem) → AllByRecursion IsPhysical ps →
+    AllByRecursion (λ b. IsNumber b.size) shown → AllByRecursion (λ (t : TableView). IsNumber t.size) (tables_of shown ps vs)
+sizes_of_new shown ps vs physical sizes =
+    each_append (λ (t : TableView). IsNumber t.size) (map physical_table ps) (map (virtual_table shown) vs) (physical_sizes ps physical) (virtual_sizes shown vs sizes)
+
+pub created_sizes : (cs : List CreatedItem) → AllByRecursion IsCreated cs → AllByRecursion (λ (c : CreatedItem). IsNumber c.size) cs
+created_sizes [] all = tt
+created_sizes (c ∷ cs) all = (all.0.size, created_sizes cs all.1)
+
+-- the edit's number, where it has one
+number_after : (o : Option ℕ) (n : ℕ) → IfSome o IsNumber → IsNumber n → IsNumber (unwrap_or o n)
+number_after None n said was = was
+number_after (Some m) n said was = said
+
+pub numbers_after : (five : FiveNumbers) (edit : VersionEdit) → AreNumbers five → IsSpellable edit → AreNumbers (five_after five edit)
+numbers_after five edit were said = record {
+  accepted = number_after edit.accepted five.accepted said.accepted were.accepted;
+  next = number_after edit.next five.next said.next were.next;
+  log = number_after edit.log five.log said.log were.log;
+  flushed = number_after edit.flushed five.flushed said.flushed were.flushed;
+  format = number_after edit.format five.format said.format were.format;
+}
 
 -- a list of one at most
 pub short_ascends : (cs : List CreatedItem) → length cs ≤ 1 → Ascend created_below cs

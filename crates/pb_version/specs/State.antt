@@ -1,7 +1,8 @@
 -- What holds of every version, and what is made ready for an edit of one.
-use Rattle.std.specs.Prelude.{◌≡◌, ℕ, ◌≤◌, ◌⊎◌, ◌||◌, ◌==◌, List, length, Bool, true, not, nat_le, nat_lt, ◌&&◌, if◌then◌else◌, Option, Some, None, IfSome, All}
-use Rattle.std.specs.List.{list_all}
+use Rattle.std.specs.Prelude.{◌≡◌, ℕ, ◌+◌, ◌≤◌, ◌⊎◌, ◌||◌, ◌==◌, List, length, Bool, true, not, nat_le, nat_lt, ◌&&◌, if◌then◌else◌, Option, Some, None, IfSome, All}
+use Rattle.std.specs.List.{list_all, AllByRecursion}
 use Rattle.std.specs.Option.{unwrap_or}
+use Rattle.pb_edit.specs.declared.grammar.TheConstants.{LAST_LEVEL}
 use Rattle.pb_edit.specs.Edit.{DeletedItem, CreatedItem, VersionEdit}
 use Rattle.pb_edit.specs.Grammar.{IsNumber, IsPhysical, IsVirtual, IsCreated, Ascend, created_below}
 use Rattle.pb_version.specs.declared.broken.Broken.{Broken}
@@ -20,8 +21,18 @@ is_formed backings t = if t.is_virtual then unwrap_or (size_of backings t.backin
 abbrev pub is_below_next : ℕ → TableView → Bool
 is_below_next next t = nat_lt t.number next && nat_lt t.rank next
 
--- what the rules of edits leave true of a version: its tables' numbers, views and places, their backings, and its numbers
+-- an edit can say each of them
+pub record AreNumbers (five : FiveNumbers) : Type 0 where
+  pub accepted : IsNumber five.accepted
+  pub next : IsNumber five.next
+  pub log : IsNumber five.log
+  pub flushed : IsNumber five.flushed
+  pub format : IsNumber five.format
+
+-- what the grammar and the rules of edits leave true of a version: its tables' numbers, views and places, their backings,
+-- and its numbers and sizes
 pub record IsVersion (v : VersionView) : Type 0 where
+  pub levels : length v.levels ≡ LAST_LEVEL + 1
   pub numbered : each_pair other_number (all_tables v) ≡ true
   pub views : list_all (λ t. is_view t.view) (all_tables v) ≡ true
   pub apart : list_all (λ apart. apart) (each_level are_all_apart 0 v.levels) ≡ true
@@ -35,6 +46,9 @@ pub record IsVersion (v : VersionView) : Type 0 where
   pub backings_below : list_all (λ b. nat_lt b.number v.five.next) v.backings ≡ true
   pub backed : list_all (has_its_backing v.backings) (all_tables v) ≡ true
   pub shown : list_all (λ b. is_shown (all_tables v) b.number) v.backings ≡ true
+  pub numbers : AreNumbers v.five
+  pub sizes : AllByRecursion (λ t. IsNumber t.size) (all_tables v)
+  pub backing_sizes : AllByRecursion (λ b. IsNumber b.size) v.backings
 
 -- what the grammar of edits says of numbers and levels, whichever kinds of items count in it
 pub record IsSpellable (edit : VersionEdit) : Type 0 where

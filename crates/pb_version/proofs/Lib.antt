@@ -12,3 +12,6 @@ pub mod MeaningLaws
 pub mod Commute
 pub mod Kept
 pub mod KeptFacts
+pub mod Snapshots
+pub mod SnapshotRules
+pub mod SnapshotSpelling

@@ -6,7 +6,7 @@ use Rattle.pb_edit.specs.Edit.{VersionEdit}
 use Rattle.pb_edit.specs.Grammar.{IsEdit, IsPhysical, IsVirtual, IsCreated}
 use Rattle.pb_version.specs.State.{IsSpellable}
 
-at_each : {X : Type 0} (P : X → Type 0) (xs : List X) → AllByRecursion P xs → All P xs
+pub at_each : {X : Type 0} (P : X → Type 0) (xs : List X) → AllByRecursion P xs → All P xs
 at_each P [] each k d h = absurd (omega arith)
 at_each P (x ∷ xs) each zero d h = each.0
 at_each P (x ∷ xs) each (suc k) d h = at_each P xs each.1 k d (omega arith)

@@ -1,11 +1,14 @@
-ghost use Rattle.std.specs.Prelude.{◌≡◌, None, IfOk, IfErr, OnOk, OnErr};
+ghost use Rattle.std.specs.Prelude.{◌≡◌, ◌≢◌, ◌≤◌, [], ◌∷◌, None, IfOk, IfErr, OnOk, OnErr};
 ghost use Rattle.std.specs.List.{list_any};
+ghost use Rattle.pb_edit.specs.declared.grammar.TheConstants.{LAST_KIND};
 ghost use Rattle.pb_edit.specs.Edit.{VersionEdit};
+ghost use Rattle.pb_edit.specs.Grammar.{IsEdit};
 ghost use Rattle.pb_keys.specs.Span.{overlap};
 ghost use Rattle.pb_version.specs.Version.{empty_version, tables_of_level, size_of};
 ghost use Rattle.pb_version.specs.Edited.{edited};
 ghost use Rattle.pb_version.specs.Rules.{first_broken};
 ghost use Rattle.pb_version.specs.Snapshot.{snapshot_of};
+ghost use Rattle.pb_version.specs.Fold.{FoldsTo};
 ghost use Rattle.pb_version.specs.State.{IsVersion, IsSpellable, IsVerdict, Prepares};
 
 use super::copies::copy_of_tables;
@@ -13,9 +16,9 @@ use super::installed::{merged, without_deleted};
 use super::made::copy_of_backings;
 use super::prepared::{Prepared, ready_for};
 use super::scans::size_of;
-use super::snapshot::{physical_items, virtual_items};
+use super::snapshot::edit_of;
 use super::{Broken, Five, Table};
-use pb_edit::{Backings, Created, Deletions, Edit, Numbers, Physicals, Virtuals};
+use pb_edit::{Created, Edit};
 use pb_keys::Span;
 use std::alloc::{AllocError, Global};
 use std::marker::Model;
@@ -136,25 +139,21 @@ impl Version {
         size_of(self.backings.as_slice(), number)
     }
 
-    /// The edit that makes this version anew, with all five numbers: its tables by number, and its backings.
+    /// The edit that makes this version anew, with all five numbers: its tables by number, and its backings. Before the first
+    /// edit it would break V8. With backings it is an edit of the grammar only where their kind of items counts.
     pub fn snapshot(&self, alloc: Global) -> Result<Edit, AllocError>
         ensures ok { IfOk result (λ edit. edit ≡ snapshot_of self.now) }
+        ensures folds { IfOk result (λ edit. self.now.five.format ≢ 0 → FoldsTo (edit ∷ []) self.now) }
+        ensures spellable { IfOk result (λ edit. IsSpellable edit) }
+        ensures in_form { IfOk result (λ edit. (¬ (self.now.backings ≡ []) → 9 ≤ LAST_KIND) → IsEdit edit) }
     {
-        let physical = physical_items(alloc, self.tables.as_slice())?;
-        let virtuals = virtual_items(alloc, self.tables.as_slice())?;
-        let created = copy_of_backings(alloc, self.backings.as_slice())?;
-        Ok(Edit {
-            accepted: Some(self.five.accepted),
-            next: Some(self.five.next),
-            log: Some(self.five.log),
-            flushed: Some(self.five.flushed),
-            format: Some(self.five.format),
-            deleted: Deletions::from_vec(Vec::new(alloc)),
-            physical: Physicals::from_vec(physical),
-            virtuals: Virtuals::from_vec(virtuals),
-            created: Backings::from_vec(created),
-            removed: Numbers::from_vec(Vec::new(alloc)),
-        })
+        let edit = edit_of(
+            alloc,
+            self.tables.as_slice(),
+            self.backings.as_slice(),
+            &self.five,
+        )?;
+        Ok(edit)
     }
 
     /// Another value of the same version.

@@ -9,14 +9,14 @@ use Rattle.pb_gate_log.proofs.LogStates.{each_has, each_kept}
 use Rattle.pb_names.specs.Named.{Named}
 use Rattle.pb_names.specs.Named.Named.{current, file}
 use Rattle.pb_names.specs.Spelling.{current_name}
-use Rattle.pb_names.specs.declared.file_kind.FileKind.TheVariants.{Manifest}
+use Rattle.pb_names.specs.declared.file_kind.FileKind.TheVariants.{Catalogue, Manifest}
 use Rattle.pb_names.proofs.NamedLemmas.{names_are_apart}
 use Rattle.pb_payloads.specs.Current.{SaysCurrent}
 use Rattle.pb_version.specs.Version.{VersionView}
 use Rattle.pb_version.specs.Edited.{edited}
 use Rattle.pb_version.specs.Rules.{first_broken}
 use Rattle.pb_version.specs.SaysVersion.{SaysVersion}
-use Rattle.pb_manifest.specs.Manifest.{ManifestView, manifest_name, pointer_to, payloads_in, SaysFolder, EachManifest, EachSays}
+use Rattle.pb_manifest.specs.Manifest.{ManifestView, catalogue_name, manifest_name, pointer_to, payloads_in, SaysFolder, EachManifest, EachSays}
 use Rattle.pb_version.proofs.SaysLaws.{says_more}
 use Rattle.pb_manifest.proofs.Kept.{next_stays}
 
@@ -28,6 +28,15 @@ pub apart : (number : ℕ) → number < 2 ^ 62 → current_name ≡ manifest_nam
 apart number low same =
     let fits : number < 2 ^ 64 = omega arith in
     two_names number fits (names_are_apart current (file Manifest number) tt fits same)
+
+no_catalogue : (number : ℕ) → number < 2 ^ 64 → current ≡ file Catalogue number → ⊥
+no_catalogue number fits same = cc
+
+-- and no catalogue
+pub apart_catalogue : (number : ℕ) → number < 2 ^ 62 → current_name ≡ catalogue_name number → ⊥
+apart_catalogue number low same =
+    let fits : number < 2 ^ 64 = omega arith in
+    no_catalogue number fits (names_are_apart current (file Catalogue number) tt fits same)
 
 pub has_payloads : (list : List (List ℕ)) (image : Option (List ℕ)) → HasList list image → payloads_in image ≡ list
 has_payloads list None has = absurd has

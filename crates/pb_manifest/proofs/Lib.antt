@@ -8,4 +8,5 @@ pub mod Results
 pub mod Logs
 pub mod Creating
 pub mod Opening
+pub mod Opened
 pub mod Errors

@@ -19,3 +19,9 @@ if_some_both (Some x) P Q R f h k = f x h k
 pub if_none : {T : Type 0} (o : Option T) (P Q : Type 0) → (P → Q) → IfNone o P → IfNone o Q
 if_none None P Q f h = f h
 if_none (Some x) P Q f h = h
+
+pub some_has : {T : Type 0} (o : Option T) (P : T → Type 0) (x : T) → o ≡ Some x → IfSome o P → P x
+some_has o P x is h = subst (λ (p : Option _). IfSome p P) is h
+
+pub none_has : {T : Type 0} (o : Option T) (P : Type 0) → o ≡ None → IfNone o P → P
+none_has o P is h = subst (λ (p : Option _). IfNone p P) is h

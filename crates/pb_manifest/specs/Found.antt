@@ -1,6 +1,6 @@
 -- What an opening finds in a folder, and what it leaves there.
 use Rattle.std.specs.Prelude.{◌≡◌, ℕ, ◌<◌, ◌≤◌, ◌⊎◌, List, [], Option, None, IsSome}
-use Rattle.pb_devices.specs.Contents.{Contents, Folder, MayLeave}
+use Rattle.pb_devices.specs.Contents.{Contents, Folder, IsSettled, MayLeave}
 use Rattle.pb_gate_log.specs.Payloads.{HasList}
 use Rattle.pb_names.specs.Spelling.{current_name}
 use Rattle.pb_payloads.specs.Current.{Pointer, SaysCurrent}
@@ -57,6 +57,16 @@ IsDamaged folder file =
     ⊎ ((pointer : Pointer) × Names pointer folder × IsAmiss pointer.manifest pointer.catalogue folder file)
 
 -- ---- what an opening leaves
+
+-- neither the current pointer nor the manifest that it names
+abbrev pub IsUnnamed : List ℕ → Folder → Type 0
+IsUnnamed name folder = (name ≡ current_name → ⊥) × ((pointer : Pointer) → Names pointer folder → name ≡ manifest_name pointer.manifest → ⊥)
+
+-- of every such name, reads give the same, no image is new, and what was durable alone is
+pub record KeepsUnnamed (old new : Contents) : Type 0 where
+  pub reads : (other : List ℕ) → IsUnnamed other old.seen → new.seen other ≡ old.seen other
+  pub images : (other : List ℕ) (image : Option (List ℕ)) → IsUnnamed other old.seen → MayLeave new other image → MayLeave old other image
+  pub settled : (other : List ℕ) → IsUnnamed other old.seen → IsSettled old other → IsSettled new other
 
 -- an image is what reads gave, or has the same payloads
 abbrev pub SameOrSaid : Option (List ℕ) → Option (List ℕ) → Type 0

@@ -7,6 +7,7 @@ mod error;
 mod fold;
 mod manifest;
 mod numbers;
+mod open;
 mod pointer;
 
 pub use error::{CommitError, ManifestError};

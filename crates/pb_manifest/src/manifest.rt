@@ -2,7 +2,7 @@ ghost use Rattle.std.specs.Prelude.{◌≡◌, ◌⊎◌, ◌+◌, ◌<◌, ◌�
 ghost use Rattle.pb_devices.specs.Contents.{Folder, IsImage, IsSettled, KeepsOthers};
 ghost use Rattle.pb_devices.specs.Counts.{Rose};
 ghost use Rattle.pb_edit.specs.Grammar.{IsEdit};
-ghost use Rattle.pb_manifest.specs.Found.{HasVersion, IsDamaged, IsNew, KeepsPayloads, Names};
+ghost use Rattle.pb_manifest.specs.Found.{HasVersion, IsDamaged, IsNew, KeepsPayloads, KeepsUnnamed, Names};
 ghost use Rattle.pb_manifest.specs.Judged.{Judges};
 ghost use Rattle.pb_manifest.specs.Manifest.{EachManifest, EachSays, IsNumbered, KeepsAllBut, SaysFolder, manifest_name, payloads_in, pointer_to};
 ghost use Rattle.pb_manifest.specs.Numbers.{IsFolded, IsSpent, OnlyReserves, SameNumbers, block_end, with_next};
@@ -12,11 +12,12 @@ ghost use Rattle.pb_version.specs.Edited.{edited};
 ghost use Rattle.pb_version.specs.Rules.{first_broken};
 ghost use Rattle.pb_version.specs.Version.{empty_version};
 
-use crate::CommitError;
 use crate::append::{append, spelled};
 use crate::create::{begun, lay};
 use crate::numbers::{BLOCK, reserve_below};
+use crate::open::{find, open_current, read_version};
 use crate::pointer::spell_pointer;
+use crate::{CommitError, ManifestError};
 use pb_devices::Disk;
 use pb_edit::{Edit, NUMBERS};
 use pb_gate_log::GateLog;
@@ -91,6 +92,53 @@ impl Manifest {
             },
             version,
         ))
+    }
+
+    /// Opens the manifest that the last payload of `CURRENT` names, and gives the version that its edits fold to. It shuts the
+    /// last gates that stand open or torn; no payload comes or goes, whether it succeeds or fails. What it draws first is the
+    /// end of the reserved numbers, so no number is drawn that was drawn before.
+    ///
+    /// None comes exactly where `CURRENT` is absent or has no payload. `Damaged` comes with `CURRENT` where that payload names
+    /// no two files, one of them is absent, or the manifest's own number isn't reserved; and with the manifest's file where
+    /// that has no edit, a payload that is none, or an edit that breaks a rule.
+    pub fn open<D: Disk>(
+        alloc: Global,
+        disk: &mut D,
+    ) -> Result<Option<(Manifest, Version)>, ManifestError>
+        requires { D.told ≡ true → (name : List ℕ) → IsSettled (D.contents disk.old) name }
+        ensures none { D.told ≡ true → IfOk result (λ found. IfNone found (IsNew (D.contents disk.old).seen)) }
+        ensures names { D.told ≡ true → IfOk result (λ found. IfSome found (λ opened.
+            Names (pointer_to opened.0.number opened.0.catalogue) (D.contents disk.old).seen)) }
+        ensures version { D.told ≡ true → IfOk result (λ found. IfSome found (λ opened.
+            HasVersion opened.0.number opened.0.catalogue opened.1 (D.contents disk.old).seen)) }
+        ensures next { IfOk result (λ found. IfSome found (λ opened. opened.0.next ≡ opened.1.five.next)) }
+        ensures kept { D.told ≡ true → IfOk result (λ found. IfSome found (λ opened. EachManifest opened.0 opened.1 (D.contents disk.new))) }
+        ensures damaged { D.told ≡ true → (file : List ℕ) → result ≡ Err (ManifestError.Damaged file)
+            → IsDamaged (D.contents disk.old).seen file }
+        ensures undamaged { D.told ≡ true → OnOk result ((file : List ℕ) → IsDamaged (D.contents disk.old).seen file → ⊥) }
+        ensures settled { D.told ≡ true → OnOk result ((name : List ℕ) → IsSettled (D.contents disk.new) name) }
+        ensures crash { D.told ≡ true → KeepsPayloads (D.contents disk.old) (D.contents disk.new) }
+        ensures others { D.told ≡ true → KeepsUnnamed (D.contents disk.old) (D.contents disk.new) }
+        ensures later { D.fault_count disk.old ≤ D.fault_count disk.new }
+        ensures failed { result ≡ Err ManifestError.Disk → Rose (D.fault_count disk.old) (D.fault_count disk.new) }
+    {
+        let Some((current, pointers)) = open_current(alloc, disk)? else {
+            return Ok(None);
+        };
+        if pointers.is_empty() {
+            return Ok(None);
+        }
+        let (number, catalogue) = find(disk, &pointers)?;
+        let (log, version) = read_version(alloc, disk, number)?;
+        let next = version.five().next;
+        let manifest = Manifest {
+            number,
+            catalogue,
+            next,
+            log,
+            current,
+        };
+        Ok(Some((manifest, version)))
     }
 
     /// The number of the catalogue.

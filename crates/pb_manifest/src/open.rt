@@ -1,0 +1,147 @@
+ghost use Rattle.std.specs.Prelude.{◌≡◌, ◌≢◌, ◌⊎◌, ◌<◌, ◌≤◌, [], true, false, ℕ, List, Option, None, Err, IsSome, IfErr, IfNone, IfOk, IfSome, OnOk};
+ghost use Rattle.pb_devices.specs.Contents.{IsSettled, KeepsOthers, MayLeave};
+ghost use Rattle.pb_devices.specs.Counts.{HasCause, Rose};
+ghost use Rattle.pb_devices.specs.DiskCalls.{Stays};
+ghost use Rattle.pb_gate_log.specs.EachLog.{EachLog};
+ghost use Rattle.pb_gate_log.specs.Payloads.{HasList};
+ghost use Rattle.pb_manifest.specs.Found.{AreThere, IsLacking, SameOrSaid, Says};
+ghost use Rattle.pb_manifest.specs.Manifest.{catalogue_name, manifest_name, payloads_in, pointer_to};
+ghost use Rattle.pb_manifest.specs.Steps.{IsLost, IsUnread};
+ghost use Rattle.pb_names.specs.Spelling.{current_name};
+ghost use Rattle.pb_payloads.specs.Current.{SaysCurrent};
+
+use crate::ManifestError;
+use crate::fold::fold;
+use crate::pointer::last_pointer;
+use pb_devices::{Disk, Failed, Fault};
+use pb_gate_log::GateLog;
+use pb_keys::Bytes;
+use pb_names::{FileKind, Name, current, file};
+use pb_version::Version;
+use std::alloc::Global;
+
+/// Opens the log of `CURRENT`, and gives its payloads. None exactly where it is absent.
+pub(crate) fn open_current<D: Disk>(
+    alloc: Global,
+    disk: &mut D,
+) -> Result<Option<(GateLog, Vec<Bytes>)>, ManifestError>
+    requires { D.told ≡ true → IsSettled (D.contents disk.old) current_name }
+    ensures absent { D.told ≡ true → IfOk result (λ found. IfNone found ((D.contents disk.old).seen current_name ≡ None)) }
+    ensures name { IfOk result (λ found. IfSome found (λ opened. opened.0.file ≡ current_name)) }
+    ensures list { D.told ≡ true → IfOk result (λ found. IfSome found (λ opened.
+        HasList opened.1.items ((D.contents disk.old).seen current_name))) }
+    ensures log { D.told ≡ true → IfOk result (λ found. IfSome found (λ opened. EachLog opened.0 opened.1.items (D.contents disk.new))) }
+    ensures settled { D.told ≡ true → OnOk result (IsSettled (D.contents disk.new) current_name) }
+    ensures crash { D.told ≡ true → (image : Option (List ℕ)) → MayLeave (D.contents disk.new) current_name image
+        → SameOrSaid ((D.contents disk.old).seen current_name) image }
+    ensures others { D.told ≡ true → KeepsOthers (D.contents disk.old) (D.contents disk.new) current_name }
+    ensures known { IfErr result (λ error. (error ≡ ManifestError.Disk) ⊎ (error ≡ ManifestError.NoMemory)) }
+    ensures later { D.fault_count disk.old ≤ D.fault_count disk.new }
+    ensures failed { result ≡ Err ManifestError.Disk → Rose (D.fault_count disk.old) (D.fault_count disk.new) }
+{
+    let name = current();
+    if !is_there(disk, name)? {
+        return Ok(None);
+    }
+    let (log, payloads) = opened(alloc, disk, name)?;
+    Ok(Some((log, payloads)))
+}
+
+/// The numbers of the manifest and of the catalogue that the last payload of `CURRENT` names.
+pub(crate) fn find<D: Disk>(disk: &mut D, payloads: &[Bytes]) -> Result<(u64, u64), ManifestError>
+    requires { payloads.now ≡ [] → ⊥ }
+    ensures names { IfOk result (λ found. SaysCurrent payloads.now (pointer_to found.0 found.1)) }
+    ensures there { D.told ≡ true → IfOk result (λ found. AreThere found.0 found.1 (D.contents disk.old).seen) }
+    ensures damaged { D.told ≡ true → (file : List ℕ) → result ≡ Err (ManifestError.Damaged file)
+        → (file ≡ current_name) × IsLost payloads.now (D.contents disk.old).seen }
+    ensures stays { D.told ≡ true → Stays (D.contents disk.old) (D.contents disk.new) }
+    ensures later { D.fault_count disk.old ≤ D.fault_count disk.new }
+    ensures failed { result ≡ Err ManifestError.Disk → Rose (D.fault_count disk.old) (D.fault_count disk.new) }
+{
+    let Some((manifest, catalogue)) = last_pointer(payloads) else {
+        return Err(ManifestError::Damaged(current()));
+    };
+    if !are_there(disk, manifest, catalogue)? {
+        return Err(ManifestError::Damaged(current()));
+    }
+    Ok((manifest, catalogue))
+}
+
+/// Opens the log of a manifest, and gives the version that its edits fold to.
+pub(crate) fn read_version<D: Disk>(
+    alloc: Global,
+    disk: &mut D,
+    number: u64,
+) -> Result<(GateLog, Version), ManifestError>
+    requires there { D.told ≡ true → IsSome ((D.contents disk.old).seen (manifest_name number)) }
+    requires settled { D.told ≡ true → IsSettled (D.contents disk.old) (manifest_name number) }
+    ensures name { IfOk result (λ read. read.0.file ≡ manifest_name number) }
+    ensures log { D.told ≡ true → IfOk result (λ read.
+        EachLog read.0 (payloads_in ((D.contents disk.old).seen (manifest_name number))) (D.contents disk.new)) }
+    ensures says { D.told ≡ true → IfOk result (λ read. Says number read.1 (D.contents disk.old).seen) }
+    ensures own { IfOk result (λ read. number < read.1.five.next) }
+    ensures damaged { D.told ≡ true → (file : List ℕ) → result ≡ Err (ManifestError.Damaged file)
+        → IsUnread number (D.contents disk.old).seen file }
+    ensures crash { D.told ≡ true → (image : Option (List ℕ)) → MayLeave (D.contents disk.new) (manifest_name number) image
+        → SameOrSaid ((D.contents disk.old).seen (manifest_name number)) image }
+    ensures others { D.told ≡ true → KeepsOthers (D.contents disk.old) (D.contents disk.new) (manifest_name number) }
+    ensures later { D.fault_count disk.old ≤ D.fault_count disk.new }
+    ensures failed { result ≡ Err ManifestError.Disk → Rose (D.fault_count disk.old) (D.fault_count disk.new) }
+{
+    let name = file(FileKind::Manifest, number);
+    let (log, payloads) = opened(alloc, disk, name)?;
+    let Some(version) = fold(alloc, &payloads)? else {
+        return Err(ManifestError::Damaged(name));
+    };
+    if number >= version.five().next {
+        return Err(ManifestError::Damaged(current()));
+    }
+    Ok((log, version))
+}
+
+/// Whether both files are there that `CURRENT` names. Both are asked for, whatever the first answer is.
+fn are_there<D: Disk>(disk: &mut D, manifest: u64, catalogue: u64) -> Result<bool, Failed>
+    ensures yes { D.told ≡ true → IfOk result (λ there. there ≡ true → AreThere manifest catalogue (D.contents disk.old).seen) }
+    ensures no { D.told ≡ true → IfOk result (λ there. there ≡ false → IsLacking manifest catalogue (D.contents disk.old).seen) }
+    ensures stays { D.told ≡ true → Stays (D.contents disk.old) (D.contents disk.new) }
+    ensures cause { HasCause (D.fault_count disk.old) (D.fault_count disk.new) result }
+{
+    let manifest = is_there(disk, file(FileKind::Manifest, manifest))?;
+    let catalogue = is_there(disk, file(FileKind::Catalogue, catalogue))?;
+    Ok(manifest && catalogue)
+}
+
+fn is_there<D: Disk>(disk: &mut D, name: Name) -> Result<bool, Failed>
+    ensures yes { D.told ≡ true → IfOk result (λ there. there ≡ true → IsSome ((D.contents disk.old).seen name)) }
+    ensures no { D.told ≡ true → IfOk result (λ there. there ≡ false → (D.contents disk.old).seen name ≡ None) }
+    ensures stays { D.told ≡ true → Stays (D.contents disk.old) (D.contents disk.new) }
+    ensures cause { HasCause (D.fault_count disk.old) (D.fault_count disk.new) result }
+{
+    let found = disk.len(name.as_str())?;
+    Ok(found.is_some())
+}
+
+/// Opens a log that is there, and gives its payloads.
+fn opened<D: Disk>(
+    alloc: Global,
+    disk: &mut D,
+    name: Name,
+) -> Result<(GateLog, Vec<Bytes>), ManifestError>
+    requires there { D.told ≡ true → IsSome ((D.contents disk.old).seen name) }
+    requires settled { D.told ≡ true → IsSettled (D.contents disk.old) name }
+    ensures name { IfOk result (λ opened. opened.0.file ≡ name) }
+    ensures list { D.told ≡ true → IfOk result (λ opened. HasList opened.1.items ((D.contents disk.old).seen name)) }
+    ensures log { D.told ≡ true → IfOk result (λ opened. EachLog opened.0 opened.1.items (D.contents disk.new)) }
+    ensures crash { D.told ≡ true → (image : Option (List ℕ)) → MayLeave (D.contents disk.new) name image
+        → SameOrSaid ((D.contents disk.old).seen name) image }
+    ensures others { D.told ≡ true → KeepsOthers (D.contents disk.old) (D.contents disk.new) name }
+    ensures known { IfErr result (λ error. (error ≡ ManifestError.Disk) ⊎ (error ≡ ManifestError.NoMemory)) }
+    ensures later { D.fault_count disk.old ≤ D.fault_count disk.new }
+    ensures failed { result ≡ Err ManifestError.Disk → Rose (D.fault_count disk.old) (D.fault_count disk.new) }
+{
+    match GateLog::open(alloc, disk, name) {
+        Ok((log, payloads)) => Ok((log, payloads)),
+        Err(Fault::Disk) => Err(ManifestError::Disk),
+        Err(_) => Err(ManifestError::NoMemory),
+    }
+}

@@ -130,11 +130,11 @@ impl Manifest {
         }
         let (number, catalogue) = find(disk, &pointers)?;
         let (log, version) = read_version(alloc, disk, number)?;
-        let next = version.five().next;
+        let reserved = version.five().next;
         let manifest = Manifest {
             number,
             catalogue,
-            next,
+            next: reserved,
             log,
             current,
         };

@@ -131,7 +131,7 @@ returns-clause-kept g c = λ told.
     let names = subst (λ (l : List (List ℕ)). SaysCurrent l (pointer_to number catalogue)) c.deref.ensures.value c.in_ok-number.ensures.names in
     let new = g.D.Disk.contents c.read_version.new.disk in
     opened_manifest old mid same payloads list (c.in_ok-current.ensures.others told) number catalogue stays names (c.in_ok-number.ensures.there told)
-    new c.in_ok-log.version c.next.inside.next c.in_ok-log.log c.in-Some.current (ap (λ (f : FiveNumbers). f.next) (c.next.view_is ∙ c.five.ensures.value))
+    new c.in_ok-log.version c.reserved.inside.next c.in_ok-log.log c.in-Some.current (ap (λ (f : FiveNumbers). f.next) (c.reserved.view_is ∙ c.five.ensures.value))
     (some_has c.in_ok-current.field-0 (λ opened. opened.0.file ≡ current_name) (c.in-Some.current, c.in-Some.pointers) c.in-Some.is c.in_ok-current.ensures.name)
     c.in_ok-log.ensures.name
     (some_has c.in_ok-current.field-0 (λ opened. EachLog opened.0 opened.1.items mid) (c.in-Some.current, c.in-Some.pointers) c.in-Some.is (c.in_ok-current.ensures.log told))

@@ -1,5 +1,5 @@
 -- Blocks of numbers, one after the other.
-use Rattle.std.proofs.Common.{◌≡◌, ℕ, ◌+◌, ◌<◌, ◌≤◌, ◌^◌, List, refl, sym, ap, ◌∙◌, subst, arith}
+use Rattle.std.proofs.Common.{◌≡◌, ℕ, ◌+◌, ◌<◌, ◌≤◌, ◌^◌, refl, sym, ap, ◌∙◌, subst, arith}
 use Rattle.pb_devices.specs.Contents.{Contents, KeepsOthers}
 use Rattle.pb_devices.proofs.Images.{kept_then}
 use Rattle.pb_edit.specs.Edit.{VersionEdit}

@@ -12,11 +12,11 @@ use Rattle.pb_gate_log.proofs.LogStates.{each_has, each_kept}
 use Rattle.pb_names.specs.Spelling.{current_name}
 use Rattle.pb_payloads.specs.Current.{IsPointer, pointer_spelling}
 use Rattle.pb_payloads.proofs.CurrentLaws.{current_holds}
-use Rattle.pb_version.specs.Version.{VersionView, empty_version}
+use Rattle.pb_version.specs.Version.{empty_version}
 use Rattle.pb_version.specs.Edited.{edited}
 use Rattle.pb_version.specs.Rules.{first_broken}
-use Rattle.pb_manifest.specs.Manifest.{ManifestView, manifest_name, pointer_to, payloads_in, SaysFolder, EachManifest, KeepsAllBut}
-use Rattle.pb_manifest.proofs.Folders.{apart, each_has_at, says_of}
+use Rattle.pb_manifest.specs.Manifest.{manifest_name, pointer_to, payloads_in, SaysFolder, EachManifest, KeepsAllBut}
+use Rattle.pb_manifest.proofs.Folders.{apart, says_of}
 use Rattle.pb_version.proofs.SaysLaws.{says_first}
 use Rattle.pb_manifest.proofs.Kept.{first_has_next}
 

@@ -1,12 +1,11 @@
 -- What the images of a folder say between the device calls.
-use Rattle.std.proofs.Common.{◌≡◌, ℕ, ◌≤◌, ◌<◌, ◌⊎◌, ◌^◌, List, [], ◌∷◌, ◌++◌, Option, Some, None, refl, sym, ◌∙◌, subst, inl, inr, ap, arith}
+use Rattle.std.proofs.Common.{◌≡◌, ℕ, ◌<◌, ◌⊎◌, ◌^◌, List, [], ◌∷◌, ◌++◌, Option, Some, None, sym, ◌∙◌, subst, inl, inr, arith}
 use Rattle.pb_devices.specs.Contents.{Contents, Folder, MayLeave, IsImage, KeepsOthers}
 use Rattle.pb_edit.specs.Edit.{VersionEdit}
 use Rattle.pb_edit.specs.Grammar.{IsEdit, edit_spelling}
 use Rattle.pb_gate_log.specs.EachLog.{LogPlace, EachLog}
 use Rattle.pb_gate_log.specs.Payloads.{HasList}
 use Rattle.pb_gate_log.proofs.LogStates.{each_has, each_kept}
-use Rattle.pb_names.specs.Named.{Named}
 use Rattle.pb_names.specs.Named.Named.{current, file}
 use Rattle.pb_names.specs.Spelling.{current_name}
 use Rattle.pb_names.specs.declared.file_kind.FileKind.TheVariants.{Catalogue, Manifest}

@@ -1,13 +1,13 @@
 -- What holds of a version after an edit that breaks no rule.
-use Rattle.std.proofs.Common.{◌≡◌, ℕ, ◌≤◌, ◌<◌, List, [], ◌∷◌, Bool, true, false, length, refl, subst, arith}
+use Rattle.std.proofs.Common.{◌≡◌, ℕ, ◌≤◌, List, [], ◌∷◌, Bool, true, false, length, refl, subst, arith}
 use Rattle.std.proofs.lemmas.Bool.Decides.{nat_tests}
-use Rattle.std.specs.Prelude.{not, ◌&&◌, ◌||◌, ◌==◌, nat_le, nat_lt, if◌then◌else◌, Option, Some, None, is_some}
+use Rattle.std.specs.Prelude.{not, ◌&&◌, ◌||◌, ◌==◌, nat_le, if◌then◌else◌, Option, Some, None, is_some}
 use Rattle.std.specs.List.{list_all}
 use Rattle.pb_edit.specs.Edit.{VersionEdit}
 use Rattle.pb_version.specs.declared.broken.Broken.{Broken}
 use Rattle.pb_version.specs.declared.broken.Broken.TheVariants.{V1, V2, V3, V4, V5, V6, V7, V8, V9}
 use Rattle.pb_version.specs.Version.{FiveNumbers, VersionView, all_tables, empty_version}
-use Rattle.pb_version.specs.Edited.{edited, five_after, backings_after}
+use Rattle.pb_version.specs.Edited.{edited, five_after}
 use Rattle.pb_version.specs.Rules.{keeps_v1, keeps_v2, keeps_v3, keeps_v4, keeps_v5, keeps_v6, keeps_v7, keeps_v8, keeps_v9, has_its_backing, is_shown, none_falls, fit_each_other, has_all_five, first_broken}
 use Rattle.pb_version.specs.Fold.{FoldsFrom, FoldsTo}
 use Rattle.pb_manifest.specs.Numbers.{IsFolded}

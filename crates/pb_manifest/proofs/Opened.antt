@@ -1,5 +1,5 @@
 -- The folder before an opening, by what was found behind the current pointer, and after it.
-use Rattle.std.proofs.Common.{◌≡◌, ◌<◌, ◌^◌, ◌⊎◌, ℕ, List, [], Option, IsSome, refl, sym, ◌∙◌, subst, inl, inr, arith}
+use Rattle.std.proofs.Common.{◌≡◌, ◌<◌, ◌^◌, ℕ, List, [], Option, IsSome, sym, ◌∙◌, subst, inl, inr, arith}
 use Rattle.pb_devices.specs.Contents.{Contents, Folder, MayLeave, IsSettled, KeepsOthers}
 use Rattle.pb_devices.specs.DiskCalls.{Stays}
 use Rattle.pb_devices.proofs.Images.{kept_then, stays_image, stays_kept, stays_settled}
@@ -14,7 +14,7 @@ use Rattle.pb_manifest.specs.Found.{AreThere, HasVersion, IsDamaged, IsLacking, 
 use Rattle.pb_manifest.specs.Manifest.{EachManifest, catalogue_name, manifest_name, payloads_in, pointer_to}
 use Rattle.pb_manifest.specs.Steps.{IsLost, IsUnread}
 use Rattle.pb_manifest.proofs.Folders.{apart, apart_catalogue, has_payloads}
-use Rattle.pb_manifest.proofs.Opening.{all_settled, both_keep, both_settled, first_kept, new_names_none}
+use Rattle.pb_manifest.proofs.Opening.{both_keep, both_settled, first_kept, new_names_none}
 
 -- ---- two folders in which the two files are the same
 

@@ -1,5 +1,5 @@
 -- What an opening finds and leaves.
-use Rattle.std.proofs.Common.{◌≡◌, ◌≢◌, ◌≤◌, ◌<◌, ◌⊎◌, ◌^◌, ◌+◌, ◌-◌, ℕ, suc, get_or, List, [], ◌∷◌, length, Bool, false, true, Option, Some, None, IsSome, refl, sym, ap, ◌∙◌, subst, inl, inr, arith}
+use Rattle.std.proofs.Common.{◌≡◌, ◌≢◌, ◌<◌, ◌⊎◌, ◌^◌, ◌-◌, ℕ, suc, get_or, List, [], ◌∷◌, length, Bool, false, true, Option, Some, None, IsSome, refl, sym, ap, ◌∙◌, subst, inl, inr, arith}
 use Rattle.std.specs.List.{last_or}
 use Rattle.std.proofs.lemmas.Bool.{false≢true}
 use Rattle.std.proofs.lemmas.Slice.Eq.{bytes_eq-Decides}
@@ -7,14 +7,11 @@ use Rattle.std.specs.Str.{bytes_eq}
 use Rattle.std.specs.Bool.{Decides}
 use Rattle.pb_devices.specs.Contents.{Contents, Folder, MayLeave, IsSettled, KeepsOthers}
 use Rattle.pb_devices.proofs.Images.{settled_image}
-use Rattle.pb_gate_log.specs.EachLog.{LogPlace, EachLog}
-use Rattle.pb_gate_log.specs.Payloads.{HasList}
-use Rattle.pb_gate_log.proofs.LogStates.{each_kept}
 use Rattle.pb_names.specs.Spelling.{current_name}
-use Rattle.pb_payloads.specs.Current.{Pointer, IsPointer, SaysCurrent, pointer_spelling}
+use Rattle.pb_payloads.specs.Current.{Pointer, pointer_spelling}
 use Rattle.pb_payloads.proofs.CurrentLaws.{one_current}
 use Rattle.pb_version.specs.Version.{VersionView}
-use Rattle.pb_manifest.specs.Manifest.{ManifestView, EachManifest, manifest_name, payloads_in, pointer_to}
+use Rattle.pb_manifest.specs.Manifest.{manifest_name, payloads_in}
 use Rattle.pb_manifest.specs.Found.{HasVersion, IsAmiss, IsDamaged, IsNew, KeepsPayloads, Names, SameOrSaid}
 use Rattle.pb_manifest.proofs.Folders.{apart}
 use Rattle.pb_version.proofs.SaysLaws.{one_version}

@@ -7,9 +7,9 @@ use Rattle.pb_edit.specs.Grammar.{IsEdit, edit_spelling}
 use Rattle.pb_version.specs.declared.broken.Broken.TheVariants.{V1, V2, V3, V4, V5, V6, V7, V8, V9}
 use Rattle.pb_version.specs.Version.{TableView, VersionView, all_tables}
 use Rattle.pb_version.specs.Edited.{each_level, level_after, backings_after, edited}
-use Rattle.pb_version.specs.Rules.{keeps_v1, keeps_v2, keeps_v3, keeps_v4, keeps_v5, keeps_v6, keeps_v7, keeps_v8, keeps_v9, level_keeps_v4, has_its_backing, is_shown, fit_each_other, first_broken}
+use Rattle.pb_version.specs.Rules.{keeps_v4, keeps_v6, keeps_v7, keeps_v8, keeps_v9, level_keeps_v4, has_its_backing, is_shown, first_broken}
 use Rattle.pb_manifest.specs.Numbers.{reservation, with_next, IsFolded}
-use Rattle.pb_manifest.proofs.Kept.{Fits, is_fit}
+use Rattle.pb_manifest.proofs.Kept.{is_fit}
 
 no_item : (next : ℕ) → edit_spelling (reservation next) ≡ [] → ⊥
 unfolding edit_spelling

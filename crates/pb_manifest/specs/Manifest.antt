@@ -1,5 +1,5 @@
 -- A manifest over a folder: which version the folder's files say.
-use Rattle.std.specs.Prelude.{◌≡◌, ℕ, ◌<◌, ◌≤◌, ◌⊎◌, List, [], Option, Some, None, IsSomeAnd}
+use Rattle.std.specs.Prelude.{◌≡◌, ℕ, ◌<◌, ◌≤◌, ◌⊎◌, List, [], Option, Some, None}
 use Rattle.pb_devices.specs.Contents.{Contents, Folder, MayLeave, IsImage, IsSettled}
 use Rattle.pb_gate_log.specs.EachLog.{LogPlace, EachLog}
 use Rattle.pb_gate_log.specs.Payloads.{payloads}

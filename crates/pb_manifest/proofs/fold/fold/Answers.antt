@@ -1,7 +1,6 @@
 use Rattle.std.proofs.Common.{◌≡◌, ◌+◌, ◌++◌, ◌∷◌, [], ℕ, List, take, sym, ap, ◌∙◌, subst}
-use Rattle.std.proofs.lemmas.List.{take_all}
 use Rattle.std.proofs.lemmas.Grind.{take_at_read}
-use Rattle.pb_manifest.proofs.Folds.{FoldedTo, folded_more, folded_says, next_from, nothing_said}
+use Rattle.pb_manifest.proofs.Folds.{FoldedTo, folded_more, next_from}
 use Rattle.pb_manifest.proofs.fold.fold.Goals as goal
 
 pub returns-then-not-branch-clause-none : goal.returns-then-not-branch-clause-none

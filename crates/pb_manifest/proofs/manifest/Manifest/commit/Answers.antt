@@ -1,7 +1,7 @@
-use Rattle.std.proofs.Common.{◌≡◌, ℕ, List, sym, ap, ◌∙◌, subst, inl}
+use Rattle.std.proofs.Common.{ℕ, List, sym, ap, ◌∙◌, subst, inl}
 use Rattle.pb_devices.specs.Contents.{KeepsOthers}
 use Rattle.pb_gate_log.specs.EachLog.{EachLog}
-use Rattle.pb_manifest.specs.Manifest.{ManifestView, EachManifest, EachSays, manifest_name}
+use Rattle.pb_manifest.specs.Manifest.{ManifestView, EachManifest, EachSays}
 use Rattle.pb_version.specs.Version.{VersionView}
 use Rattle.pb_version.specs.Edited.{edited}
 use Rattle.pb_version.proofs.Spelling.{spellable_edit}

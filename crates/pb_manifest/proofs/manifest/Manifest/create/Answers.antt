@@ -1,4 +1,4 @@
-use Rattle.std.proofs.Common.{List, ℕ, sym, ◌∙◌, subst, inl, inr}
+use Rattle.std.proofs.Common.{sym, ◌∙◌, subst, inl, inr}
 use Rattle.pb_manifest.specs.Manifest.{EachManifest, ManifestView, payloads_in}
 use Rattle.pb_names.specs.Spelling.{current_name}
 use Rattle.pb_version.specs.Version.{VersionView}

@@ -1,4 +1,4 @@
-use Rattle.std.proofs.Common.{◌≡◌, List, ℕ, Err, ap, ◌∙◌, subst, rules}
+use Rattle.std.proofs.Common.{◌≡◌, List, ℕ, ap, ◌∙◌, subst, rules}
 use Rattle.pb_devices.specs.Contents.{IsSettled}
 use Rattle.pb_gate_log.specs.EachLog.{EachLog}
 use Rattle.pb_gate_log.specs.Payloads.{HasList}

@@ -1,6 +1,5 @@
-use Rattle.std.proofs.Common.{◌≡◌, ◌+◌, ◌<◌, ◌^◌, ◌++◌, ◌∷◌, [], ℕ, Result, Err, None, Some, sym, ap, ◌∙◌, subst, inl, arith}
+use Rattle.std.proofs.Common.{◌≡◌, ◌+◌, ◌++◌, ◌∷◌, [], sym, ap, ◌∙◌, subst, inl, arith}
 use Rattle.pb_edit.specs.Grammar.{IsEdit}
-use Rattle.pb_manifest.specs.Judged.{Judges}
 use Rattle.pb_manifest.specs.Numbers.{reservation}
 use Rattle.pb_manifest.proofs.Blocks.{block_after, block_says}
 use Rattle.pb_manifest.proofs.Folders.{each_says, each_says_of}
@@ -10,7 +9,6 @@ use Rattle.pb_manifest.proofs.Reserved.{reservation_is, reservation_unbroken}
 use Rattle.pb_version.specs.Version.{FiveNumbers, VersionView}
 use Rattle.pb_version.specs.Fold.{FoldsTo}
 use Rattle.pb_version.specs.Rules.{first_broken}
-use Rattle.pb_edit.specs.Edit.{VersionEdit}
 use Rattle.pb_manifest.proofs.manifest.Manifest.reserve_block.Goals as goal
 
 pub returns-then-next-clause-crash : goal.returns-then-next-clause-crash

@@ -1,0 +1,12 @@
+pub mod Results
+pub mod Edits
+pub mod Entries
+pub mod Catalogues
+pub mod Lists
+pub mod Gates
+pub mod Pointers
+pub mod Reading
+pub mod Views
+pub mod Maps
+pub mod Layers
+pub mod Meanings

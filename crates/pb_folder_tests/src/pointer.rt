@@ -1,0 +1,52 @@
+ghost use Rattle.std.specs.Prelude.{◌≡◌, ℕ, ◌<◌, ◌^◌, ◌++◌, [], List, IfNone, IfSome};
+ghost use Rattle.pb_bytes.specs.Varint.{varint};
+ghost use Rattle.pb_payloads.specs.Current.{Pointer, IsPointer, SaysCurrent, pointer_spelling};
+ghost use Rattle.pb_folder_tests.specs.Said.{pointer_to};
+
+use pb_bytes::read_varint;
+use pb_edit::NUMBERS;
+use pb_keys::Bytes;
+
+/// What the last of some payloads names: the numbers of a manifest and of a catalogue. None exactly where it names none.
+pub(crate) fn last_pointer(payloads: &[Bytes]) -> Option<(u64, u64)>
+    requires { payloads.now ≡ [] → ⊥ }
+    ensures some { IfSome result (λ read. SaysCurrent payloads.now (pointer_to read.0 read.1)) }
+    ensures none { IfNone result ((pointer : Pointer) → SaysCurrent payloads.now pointer → ⊥) }
+{
+    let at = payloads.len() - 1;
+    let last = &payloads[at];
+    read_pointer(last.as_slice())
+}
+
+fn read_pointer(from: &[u8]) -> Option<(u64, u64)>
+    ensures form { IfSome result (λ read. IsPointer (pointer_to read.0 read.1)) }
+    ensures some { IfSome result (λ read. from.now ≡ pointer_spelling (pointer_to read.0 read.1)) }
+    ensures none { IfNone result ((pointer : Pointer) → IsPointer pointer → from.now ≡ pointer_spelling pointer → ⊥) }
+{
+    let Some((manifest, rest)) = read_number(from) else {
+        return None;
+    };
+    let Some((catalogue, rest)) = read_number(rest) else {
+        return None;
+    };
+    if !rest.is_empty() {
+        return None;
+    }
+    Some((manifest, catalogue))
+}
+
+/// The number below 2^62 that begins the bytes, and what stands behind it. None exactly where none does.
+fn read_number(from: &[u8]) -> Option<(u64, &[u8])>
+    ensures low { IfSome result (λ read. read.0 < 2 ^ 62) }
+    ensures some { IfSome result (λ read. from.now ≡ varint read.0 ++ read.1.now) }
+    ensures none { IfNone result ((number : ℕ) (rest : List ℕ) → number < 2 ^ 62 → from.now ≡ varint number ++ rest → ⊥) }
+{
+    let Some((number, used)) = read_varint(from) else {
+        return None;
+    };
+    if number >= NUMBERS {
+        return None;
+    }
+    let (_, rest) = from.split_at(used);
+    Some((number, rest))
+}

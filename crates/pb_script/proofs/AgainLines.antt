@@ -34,15 +34,15 @@ command_again (command.Compact level lo hi) is = rw (level_at-again level (word 
 command_again command.Release is = refl
 command_again (command.Ingest tables) is = rw (some_names_again tables is) refl
 command_again (command.Excise lo hi) is = rw (pair_at-again lo hi [] is.0 is.1) refl
-command_again (command.IngestExcise lo hi tables) is = rw (pair_at-again lo hi tables is.0 is.1, some_names_again tables is.2) refl
-command_again (command.External name lo hi prefix suffix) is =
+command_again (command.IngestExcise c) is = rw (pair_at-again c.lo c.hi c.tables is.0 is.1, some_names_again c.tables is.2) refl
+command_again (command.External c) is =
     rw (
-      name_at-again name (word lo ∷ word hi ∷ (labelled (codes "prefix=") prefix ++ labelled (codes "suffix=") suffix)) is.0,
-      pair_at-again lo hi (labelled (codes "prefix=") prefix ++ labelled (codes "suffix=") suffix) is.1 is.2,
-      both_labels prefix suffix is.3 is.4,
-      last_label suffix is.4,
+      name_at-again c.name (word c.lo ∷ word c.hi ∷ (labelled (codes "prefix=") c.prefix ++ labelled (codes "suffix=") c.suffix)) is.0,
+      pair_at-again c.lo c.hi (labelled (codes "prefix=") c.prefix ++ labelled (codes "suffix=") c.suffix) is.1 is.2,
+      both_labels c.prefix c.suffix is.3 is.4,
+      last_label c.suffix is.4,
     ) refl
-command_again (command.Lend lo hi handle) is = rw (pair_at-again lo hi (codes "as" ∷ handle ∷ []) is.0 is.1, name_at-again handle [] is.2) refl
+command_again (command.Lend c) is = rw (pair_at-again c.lo c.hi (codes "as" ∷ c.handle ∷ []) is.0 is.1, name_at-again c.handle [] is.2) refl
 command_again (command.Receive handle) is = rw (name_at-again handle [] is) refl
 command_again (command.Pin pin) is = rw (name_at-again pin [] is) refl
 

@@ -65,9 +65,9 @@ command_are_words (command.Compact level lo hi) is = (refl, (digit_is_word level
 command_are_words command.Release is = (refl, tt)
 command_are_words (command.Ingest tables) is = (refl, names_are_words tables is.1)
 command_are_words (command.Excise lo hi) is = (refl, (word_is lo is.0, (word_is hi is.1, tt)))
-command_are_words (command.IngestExcise lo hi tables) is = (refl, (word_is lo is.0, (word_is hi is.1, names_are_words tables is.2.1)))
-command_are_words (command.External name lo hi prefix suffix) is = (refl, (name_is_word name is.0, (word_is lo is.1, (word_is hi is.2, labels_are_words prefix suffix is.3 is.4))))
-command_are_words (command.Lend lo hi handle) is = (refl, (word_is lo is.0, (word_is hi is.1, (refl, (name_is_word handle is.2, tt)))))
+command_are_words (command.IngestExcise c) is = (refl, (word_is c.lo is.0, (word_is c.hi is.1, names_are_words c.tables is.2.1)))
+command_are_words (command.External c) is = (refl, (name_is_word c.name is.0, (word_is c.lo is.1, (word_is c.hi is.2, labels_are_words c.prefix c.suffix is.3 is.4))))
+command_are_words (command.Lend c) is = (refl, (word_is c.lo is.0, (word_is c.hi is.1, (refl, (name_is_word c.handle is.2, tt)))))
 command_are_words (command.Receive handle) is = (refl, (name_is_word handle is, tt))
 command_are_words (command.Pin pin) is = (refl, (refl, (name_is_word pin is, tt)))
 

@@ -56,7 +56,7 @@ unfolding line_of line_named turn_of lane_of word_at store_at behind at_end
 turn_bg = refl
 
 -- a suffix alone, and no prefix behind it
-suffix_alone : line_of (codes "B external e a b suffix=%40") ≡ Some (line.Whole 2 (command.External (codes "e") (codes "a") (codes "b") None (Some (codes "@"))))
+suffix_alone : line_of (codes "B external e a b suffix=%40") ≡ Some (line.Whole 2 (command.External (record { name = codes "e"; lo = codes "a"; hi = codes "b"; prefix = None; suffix = Some (codes "@") })))
 unfolding line_of line_named family_line whole_named command_of command_named tables_named sharing_named external_of word_at name_at pair_at string_at labelled_at at_end string_of bytes_of
 suffix_alone = refl
 

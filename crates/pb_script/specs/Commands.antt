@@ -68,7 +68,7 @@ unfoldable pub ingest_excise_of : List (List ℕ) → Option Command
 ingest_excise_of words = do
   ends ← pair_at words
   tables ← some_names_of ends.1
-  Some (IngestExcise ends.0.0 ends.0.1 tables)
+  Some (IngestExcise (record { lo = ends.0.0; hi = ends.0.1; tables = tables }))
 
 unfoldable pub external_of : List (List ℕ) → Option Command
 external_of words = do
@@ -77,7 +77,7 @@ external_of words = do
   prefix ← labelled_at (codes "prefix=") ends.1
   suffix ← labelled_at (codes "suffix=") prefix.1
   at_end suffix.1
-  Some (External name.0 ends.0.0 ends.0.1 prefix.0 suffix.0)
+  Some (External (record { name = name.0; lo = ends.0.0; hi = ends.0.1; prefix = prefix.0; suffix = suffix.0 }))
 
 unfoldable pub lend_of : List (List ℕ) → Option Command
 lend_of words = do
@@ -85,7 +85,7 @@ lend_of words = do
   rest ← behind (codes "as") ends.1
   handle ← name_at rest
   at_end handle.1
-  Some (Lend ends.0.0 ends.0.1 handle.0)
+  Some (Lend (record { lo = ends.0.0; hi = ends.0.1; handle = handle.0 }))
 
 unfoldable pub receive_of : List (List ℕ) → Option Command
 receive_of words = do
@@ -141,7 +141,7 @@ is_started Flush = true
 is_started (Compact level lo hi) = true
 is_started (Ingest tables) = true
 is_started (Excise lo hi) = true
-is_started (IngestExcise lo hi tables) = true
-is_started (External name lo hi prefix suffix) = true
+is_started (IngestExcise excise) = true
+is_started (External external) = true
 is_started (Receive handle) = true
 is_started command = false

@@ -32,9 +32,10 @@ IsCommand (command.Compact level lo hi) = (level ≤ 5) × IsString lo × IsStri
 IsCommand command.Release = Unit {0}
 IsCommand (command.Ingest tables) = AreTables tables
 IsCommand (command.Excise lo hi) = IsString lo × IsString hi
-IsCommand (command.IngestExcise lo hi tables) = IsString lo × IsString hi × AreTables tables
-IsCommand (command.External name lo hi prefix suffix) = IsName name × IsString lo × IsString hi × IfSome prefix IsString × IfSome suffix IsString
-IsCommand (command.Lend lo hi handle) = IsString lo × IsString hi × IsName handle
+IsCommand (command.IngestExcise excise) = IsString excise.lo × IsString excise.hi × AreTables excise.tables
+IsCommand (command.External external) =
+    IsName external.name × IsString external.lo × IsString external.hi × IfSome external.prefix IsString × IfSome external.suffix IsString
+IsCommand (command.Lend lend) = IsString lend.lo × IsString lend.hi × IsName lend.handle
 IsCommand (command.Receive handle) = IsName handle
 IsCommand (command.Pin pin) = IsName pin
 

@@ -34,10 +34,11 @@ command_words (command.Compact level lo hi) = codes "compact" ∷ digit level �
 command_words command.Release = codes "release" ∷ []
 command_words (command.Ingest tables) = codes "ingest" ∷ tables
 command_words (command.Excise lo hi) = codes "excise" ∷ word lo ∷ word hi ∷ []
-command_words (command.IngestExcise lo hi tables) = codes "ingestexcise" ∷ word lo ∷ word hi ∷ tables
-command_words (command.External name lo hi prefix suffix) =
-    codes "external" ∷ name ∷ word lo ∷ word hi ∷ (labelled (codes "prefix=") prefix ++ labelled (codes "suffix=") suffix)
-command_words (command.Lend lo hi handle) = codes "lend" ∷ word lo ∷ word hi ∷ codes "as" ∷ handle ∷ []
+command_words (command.IngestExcise excise) = codes "ingestexcise" ∷ word excise.lo ∷ word excise.hi ∷ excise.tables
+command_words (command.External external) =
+    codes "external" ∷ external.name ∷ word external.lo ∷ word external.hi
+    ∷ (labelled (codes "prefix=") external.prefix ++ labelled (codes "suffix=") external.suffix)
+command_words (command.Lend lend) = codes "lend" ∷ word lend.lo ∷ word lend.hi ∷ codes "as" ∷ lend.handle ∷ []
 command_words (command.Receive handle) = codes "receive" ∷ handle ∷ []
 command_words (command.Pin pin) = codes "pin" ∷ codes "as" ∷ pin ∷ []
 

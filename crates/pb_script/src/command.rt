@@ -1,35 +1,35 @@
-use crate::Words;
-use pb_keys::Bytes;
+use crate::{Boxed, ByteString, Words};
 
-/// What a line asks of one store.
+/// What a line asks of one store. The commands of three words and more stand in blocks of their own, since a line is as
+/// wide as the widest command in it.
 #[derive(Debug, Drop)]
 pub enum Command {
     /// `set k v`
     Set {
-        key: Bytes,
-        value: Bytes,
+        key: ByteString,
+        value: ByteString,
     },
     /// `del k`
-    Del(Bytes),
+    Del(ByteString),
     /// `delrange a b`
     DelRange {
-        lo: Bytes,
-        hi: Bytes,
+        lo: ByteString,
+        hi: ByteString,
     },
     /// `get k`
-    Get(Bytes),
+    Get(ByteString),
     /// `scan a b`
     Scan {
-        lo: Bytes,
-        hi: Bytes,
+        lo: ByteString,
+        hi: ByteString,
     },
     /// `flush`
     Flush,
     /// `compact L a b`, where the level is 0 to 5
     Compact {
         level: u8,
-        lo: Bytes,
-        hi: Bytes,
+        lo: ByteString,
+        hi: ByteString,
     },
     /// `release`
     Release,
@@ -37,31 +37,40 @@ pub enum Command {
     Ingest(Words),
     /// `excise a b`
     Excise {
-        lo: Bytes,
-        hi: Bytes,
+        lo: ByteString,
+        hi: ByteString,
     },
-    /// `ingestexcise a b t..`, one or more tables
-    IngestExcise {
-        lo: Bytes,
-        hi: Bytes,
-        tables: Words,
-    },
-    /// `external name a b`, then perhaps `prefix=p`, then perhaps `suffix=s`
-    External {
-        name: Bytes,
-        lo: Bytes,
-        hi: Bytes,
-        prefix: Option<Bytes>,
-        suffix: Option<Bytes>,
-    },
-    /// `lend a b as h`
-    Lend {
-        lo: Bytes,
-        hi: Bytes,
-        handle: Bytes,
-    },
+    IngestExcise(Boxed<IngestExcise>),
+    External(Boxed<External>),
+    Lend(Boxed<Lend>),
     /// `receive h`
-    Receive(Bytes),
+    Receive(ByteString),
     /// `pin as p`
-    Pin(Bytes),
+    Pin(ByteString),
+}
+
+/// `ingestexcise a b t..`, one or more tables
+#[derive(Debug, Drop)]
+pub struct IngestExcise {
+    pub lo: ByteString,
+    pub hi: ByteString,
+    pub tables: Words,
+}
+
+/// `external name a b`, then perhaps `prefix=p`, then perhaps `suffix=s`
+#[derive(Debug, Drop)]
+pub struct External {
+    pub name: ByteString,
+    pub lo: ByteString,
+    pub hi: ByteString,
+    pub prefix: Option<ByteString>,
+    pub suffix: Option<ByteString>,
+}
+
+/// `lend a b as h`
+#[derive(Debug, Drop)]
+pub struct Lend {
+    pub lo: ByteString,
+    pub hi: ByteString,
+    pub handle: ByteString,
 }

@@ -3,11 +3,11 @@ ghost use Rattle.pb_script.specs.Answers.{Gives};
 ghost use Rattle.pb_script.specs.Words.{words_of};
 ghost use Rattle.pb_script.specs.Commands.{set_of, del_of, del_range_of, get_of, scan_of, flush_of, compact_of, release_of, ingest_of, excise_of, ingest_excise_of, external_of, lend_of, receive_of, pin_of, sharing_named, tables_named, command_named, command_of, is_started};
 
-use crate::Command;
 use crate::fault::WordFault;
 use crate::fields::{
     at_end, behind, labelled_at, level_at, name_at, pair_at, some_names, string_at, word_at,
 };
+use crate::{Boxed, Command, External, IngestExcise, Lend};
 use std::alloc::Global;
 
 /// The command that words say.
@@ -178,7 +178,8 @@ fn ingest_excise(alloc: Global, words: &[u8]) -> Result<Command, WordFault>
 {
     let (lo, hi, rest) = pair_at(alloc, words)?;
     let tables = some_names(alloc, rest)?;
-    Ok(Command::IngestExcise { lo, hi, tables })
+    let excise = Boxed::new(alloc, IngestExcise { lo, hi, tables })?;
+    Ok(Command::IngestExcise(excise))
 }
 
 #[tactic(auto, unfolding(crate::specs::Commands::external_of))]
@@ -190,13 +191,14 @@ fn external(alloc: Global, words: &[u8]) -> Result<Command, WordFault>
     let (prefix, rest) = labelled_at(alloc, b"prefix=", rest)?;
     let (suffix, rest) = labelled_at(alloc, b"suffix=", rest)?;
     at_end(rest)?;
-    Ok(Command::External {
+    let external = External {
         name,
         lo,
         hi,
         prefix,
         suffix,
-    })
+    };
+    Ok(Command::External(Boxed::new(alloc, external)?))
 }
 
 #[tactic(auto, unfolding(crate::specs::Commands::lend_of))]
@@ -207,7 +209,7 @@ fn lend(alloc: Global, words: &[u8]) -> Result<Command, WordFault>
     let rest = behind(b"as", rest)?;
     let (handle, rest) = name_at(alloc, rest)?;
     at_end(rest)?;
-    Ok(Command::Lend { lo, hi, handle })
+    Ok(Command::Lend(Boxed::new(alloc, Lend { lo, hi, handle })?))
 }
 
 #[tactic(auto, unfolding(crate::specs::Commands::receive_of))]
@@ -239,8 +241,8 @@ pub fn is_started(command: &Command) -> bool
             | Command::Compact { .. }
             | Command::Ingest(_)
             | Command::Excise { .. }
-            | Command::IngestExcise { .. }
-            | Command::External { .. }
+            | Command::IngestExcise(_)
+            | Command::External(_)
             | Command::Receive(_)
     )
 }

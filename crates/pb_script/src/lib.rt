@@ -1,6 +1,8 @@
 //! Scripts: the lines that a script spells, or the first line that is off the grammar.
 #![tactic(auto)]
 
+mod boxed;
+mod byte_string;
 mod command;
 mod commands;
 mod cuts;
@@ -15,7 +17,9 @@ mod table_line;
 mod table_lines;
 mod word_list;
 
-pub use command::Command;
+pub use boxed::Boxed;
+pub use byte_string::ByteString;
+pub use command::{Command, External, IngestExcise, Lend};
 pub use fault::ParseError;
 pub use line::{Lane, Line};
 pub use script::{first_text, parse};

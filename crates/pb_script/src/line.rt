@@ -1,5 +1,4 @@
-use crate::{Command, TableLines};
-use pb_keys::Bytes;
+use crate::{ByteString, Command, TableLines};
 
 /// The lane of a started command.
 #[derive(Clone, Copy, Debug, PartialEq, Eq)]
@@ -20,23 +19,41 @@ pub enum Line {
     /// `stop A`
     Stop(u64),
     /// `turn A` and `turn A bg`
-    Turn { store: u64, lane: Lane },
+    Turn {
+        store: u64,
+        lane: Lane,
+    },
     /// `levels A`
     Levels(u64),
     /// `A`, then a command that runs to its end
-    Whole { store: u64, command: Command },
+    Whole {
+        store: u64,
+        command: Command,
+    },
     /// `start A`, then a command that turns carry on
-    Start { store: u64, command: Command },
+    Start {
+        store: u64,
+        command: Command,
+    },
     /// `table t`, the lines of its block, and `end`
-    Table { table: Bytes, lines: TableLines },
+    Table {
+        table: ByteString,
+        lines: TableLines,
+    },
     /// `export t name`
-    Export { table: Bytes, name: Bytes },
+    Export {
+        table: ByteString,
+        name: ByteString,
+    },
     /// `drop h`
-    DropHandle(Bytes),
+    DropHandle(ByteString),
     /// `get p k`
-    GetAt { pin: Bytes, key: Bytes },
+    GetAt {
+        pin: ByteString,
+        key: ByteString,
+    },
     /// `unpin p`
-    Unpin(Bytes),
+    Unpin(ByteString),
     /// `objects`
     Objects,
     /// `calls`

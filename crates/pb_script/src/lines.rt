@@ -6,8 +6,7 @@ use crate::commands::{is_started, read_command};
 use crate::fault::WordFault;
 use crate::fields::{at_end, behind, first_word, name_at, store_at, string_at, word_at};
 use crate::spelling::read_store;
-use crate::{Lane, Line, TableLines};
-use pb_keys::Bytes;
+use crate::{ByteString, Lane, Line, TableLines};
 use std::alloc::Global;
 
 /// The line that a text says. The first line of a block is a table without lines.
@@ -91,7 +90,7 @@ fn store_alone(words: &[u8]) -> Result<u64, WordFault>
 }
 
 #[tactic(auto, unfolding(crate::specs::Lines::name_alone))]
-fn name_alone(alloc: Global, words: &[u8]) -> Result<Bytes, WordFault>
+fn name_alone(alloc: Global, words: &[u8]) -> Result<ByteString, WordFault>
     ensures { Gives (λ x. x) result (name_alone (words_of words.now)) }
 {
     let (name, rest) = name_at(alloc, words)?;

@@ -10,8 +10,7 @@ use crate::fault::WordFault;
 use crate::fields::first_word;
 use crate::lines::read_line;
 use crate::table_lines::{is_end, read_table_line};
-use crate::{Line, ParseError, TableLine, TableLines};
-use pb_keys::Bytes;
+use crate::{ByteString, Line, ParseError, TableLine, TableLines};
 use std::alloc::Global;
 use std::mem::replace;
 
@@ -20,7 +19,7 @@ use std::mem::replace;
 pub(crate) enum Place {
     Between,
     /// In the block of this table, behind these lines of it.
-    Within(Bytes, TableLines),
+    Within(ByteString, TableLines),
 }
 
 /// The lines of a script, in order, or the first line that is off the grammar: `docs/FORMATS.md`, "Scripts".
@@ -148,7 +147,7 @@ fn keep(place: &mut Place, lines: &mut Vec<Line>, line: Line) -> Result<(), Word
 #[tactic(auto, unfolding(crate::specs::Script::said))]
 fn said_within(
     alloc: Global,
-    table: Bytes,
+    table: ByteString,
     block: TableLines,
     place: &mut Place,
     lines: &mut Vec<Line>,

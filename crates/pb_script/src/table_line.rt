@@ -1,17 +1,17 @@
 ghost use Rattle.std.specs.Prelude.{◌≡◌};
 
-use pb_keys::Bytes;
+use crate::ByteString;
 use std::marker::Model;
 
 /// A line of a table's block.
 #[derive(Debug, Drop)]
 pub enum TableLine {
     /// `set k v`
-    Set { key: Bytes, value: Bytes },
+    Set { key: ByteString, value: ByteString },
     /// `del k`
-    Del(Bytes),
+    Del(ByteString),
     /// `delrange a b`
-    DelRange { lo: Bytes, hi: Bytes },
+    DelRange { lo: ByteString, hi: ByteString },
 }
 
 /// The lines of a table's block, in order.

@@ -1,12 +1,12 @@
 ghost use Rattle.std.specs.Prelude.{◌≡◌};
 
-use pb_keys::Bytes;
+use crate::ByteString;
 use std::marker::Model;
 
 /// Names, in order.
 #[derive(Debug, Drop)]
 pub struct Words {
-    words: Vec<Bytes>,
+    words: Vec<ByteString>,
 }
 
 impl Model for Words {
@@ -18,19 +18,19 @@ impl Model for Words {
 }
 
 impl Words {
-    pub fn from_vec(words: Vec<Bytes>) -> Words
+    pub fn from_vec(words: Vec<ByteString>) -> Words
         ensures { result ≡ words.items }
     {
         Words { words }
     }
 
-    pub fn into_vec(self) -> Vec<Bytes>
+    pub fn into_vec(self) -> Vec<ByteString>
         ensures { result.items ≡ self }
     {
         self.words
     }
 
-    pub fn as_slice(&self) -> &[Bytes]
+    pub fn as_slice(&self) -> &[ByteString]
         ensures { result.now ≡ self.now }
     {
         self.words.as_slice()

@@ -1,11 +1,17 @@
 // Scripts, against worked examples.
 use super::parse;
-use crate::{Command, Lane, Line, ParseError, TableLine};
-use pb_keys::Bytes;
+use crate::{ByteString, Command, Lane, Line, ParseError, TableLine};
 use std::test::Fail;
 
-fn is(bytes: &Bytes, text: &[u8]) -> bool {
+fn is(bytes: &ByteString, text: &[u8]) -> bool {
     bytes.as_slice() == text
+}
+
+fn is_some(bytes: &Option<ByteString>, text: &[u8]) -> bool {
+    match bytes {
+        Some(bytes) => is(bytes, text),
+        None => false,
+    }
 }
 
 #[test]
@@ -130,13 +136,13 @@ fn commands_on_tables_are_read(rt: HostRuntime) -> Result<(), Fail> {
         matches!(&lines[1], Line::Start { command: Command::Excise { lo, hi }, .. } if is(lo, b"a") && is(hi, b"b"))
     );
     assert!(rt;
-        matches!(&lines[2], Line::Whole { command: Command::IngestExcise { lo, hi, tables }, .. } if is(lo, b"a") && is(hi, b"b") && tables.as_slice().len() == 1)
+        matches!(&lines[2], Line::Whole { command: Command::IngestExcise(excise), .. } if is(&excise.get().lo, b"a") && is(&excise.get().hi, b"b") && excise.get().tables.as_slice().len() == 1)
     );
     assert!(rt;
-        matches!(&lines[3], Line::Whole { command: Command::External { prefix: None, suffix: Some(suffix), .. }, .. } if is(suffix, b"@"))
+        matches!(&lines[3], Line::Whole { command: Command::External(external), .. } if external.get().prefix.is_none() && is_some(&external.get().suffix, b"@"))
     );
     assert!(rt;
-        matches!(&lines[4], Line::Whole { command: Command::Lend { lo, hi, handle }, .. } if is(lo, b"a") && is(hi, b"b") && is(handle, b"h"))
+        matches!(&lines[4], Line::Whole { command: Command::Lend(lend), .. } if is(&lend.get().lo, b"a") && is(&lend.get().hi, b"b") && is(&lend.get().handle, b"h"))
     );
     assert!(rt;
         matches!(&lines[5], Line::Whole { command: Command::Receive(handle), .. } if is(handle, b"h"))
@@ -145,7 +151,7 @@ fn commands_on_tables_are_read(rt: HostRuntime) -> Result<(), Fail> {
         matches!(&lines[6], Line::Whole { command: Command::Pin(pin), .. } if is(pin, b"p"))
     );
     assert!(rt;
-        matches!(&lines[7], Line::Whole { command: Command::External { prefix: Some(prefix), suffix: Some(suffix), .. }, .. } if is(prefix, b"") && is(suffix, b"s"))
+        matches!(&lines[7], Line::Whole { command: Command::External(external), .. } if is_some(&external.get().prefix, b"") && is_some(&external.get().suffix, b"s"))
     );
     Ok(())
 }

@@ -20,6 +20,7 @@ use Rattle.pb_script.specs.declared.line.Line.{Line}
 use Rattle.pb_script.specs.declared.line.Line.TheVariants as line
 use Rattle.pb_script.specs.declared.table_line.TableLine.{TableLine}
 use Rattle.pb_script.specs.declared.table_line.TableLine.TheVariants as table
+use Rattle.pb_script.proofs.Letters.{byte_line}
 use Rattle.pb_script.proofs.Again.{string_at-again, pair_at-again, name_at-again, store_again, store_at-again, level_at-again, some_names_again, both_labels, last_label}
 
 command_again : (c : Command) → IsCommand c → command_of (command_words c) ≡ Some c
@@ -72,20 +73,9 @@ unfolding lane_of behind word_at at_end
 lane_again Fg = refl
 lane_again Bg = refl
 
-other : {A : Type 0} (b : Bool) (x y : A) → cond (b && false) x y ≡ y
-other true x y = refl
-other false x y = refl
-
--- a store's letter is no keyword: each has more bytes
-letter_line : (store : ℕ) (words : List (List ℕ)) → line_named (letter store) words ≡ whole_named (letter store) words
-unfolding line_named family_line
-letter_line store words =
-    other (64 + store == 111) _ _ ∙ other (64 + store == 99) _ _ ∙ other (64 + store == 115) _ _ ∙ other (64 + store == 116) _ _ ∙ other (64 + store == 108) _ _ ∙ other (64 + store == 115) _ _
-    ∙ other (64 + store == 116) _ _ ∙ other (64 + store == 101) _ _ ∙ other (64 + store == 100) _ _ ∙ other (64 + store == 103) _ _ ∙ other (64 + store == 117) _ _ ∙ other (64 + store == 111) _ _ ∙ other (64 + store == 99) _ _
-
 whole_again : (store : ℕ) (c : Command) → IsStore store × IsCommand c → words_line (letter store ∷ command_words c) ≡ Some (line.Whole store c)
 unfolding word_at whole_named
-whole_again store c is = letter_line store (command_words c) ∙ rw (store_again store is.0, command_again c is.1) refl
+whole_again store c is = byte_line (64 + store) (command_words c) ∙ rw (store_again store is.0, command_again c is.1) refl
 
 -- the line that a printed line's first text says: of a table, a table without lines
 abbrev pub head : Line → Line

@@ -3,6 +3,8 @@ pub mod Parts
 pub mod Names
 pub mod Coded
 pub mod Turns
+pub mod Letters
+pub mod SetLines
 mod Examples
 pub mod Formed
 pub mod FormedLines

@@ -3,9 +3,10 @@ use Rattle.std.specs.Prelude.{ℕ, if◌then◌else◌, List, [], ◌∷◌, Opt
 use Rattle.std.specs.Str.{bytes_eq}
 use Rattle.pb_script.specs.Answers.{◌>>=◌, ◌>>◌}
 use Rattle.pb_script.specs.Words.{words_of}
-use Rattle.pb_script.specs.Strings.{store_of}
+use Rattle.pb_script.specs.Strings.{string_of, store_of}
 use Rattle.pb_script.specs.Fields.{word_at, string_at, name_at, store_at, behind, at_end}
 use Rattle.pb_script.specs.Commands.{command_of, is_started}
+use Rattle.pb_script.specs.declared.command.Command.TheVariants.{Set}
 use Rattle.pb_script.specs.declared.line.Lane.{Lane}
 use Rattle.pb_script.specs.declared.line.Lane.TheVariants.{Fg, Bg}
 use Rattle.pb_script.specs.declared.line.Line.{Line}
@@ -71,6 +72,13 @@ whole_named first words = do
   store ← store_of first
   command ← command_of words
   Some (Whole store command)
+
+-- a store's `set`, by the words of its key and value
+unfoldable pub set_line : ℕ → List ℕ → List ℕ → Option Line
+set_line store key value = do
+  k ← string_of key
+  v ← string_of value
+  Some (Whole store (Set k v))
 
 -- the first line of a block, as the line of a table without lines
 unfoldable pub table_of : List (List ℕ) → Option Line

@@ -20,11 +20,15 @@ abbrev pub after_line : Line → Place × Option Line
 after_line (Table table lines) = (Within table lines, None)
 after_line line = (Between, Some line)
 
+-- the same of a line that may be off the grammar
+abbrev pub after_read : Option Line → Option (Place × Option Line)
+after_read read = do
+  line ← read
+  Some (after_line line)
+
 -- the place behind a text that is not skipped, and the line that it ends: nothing where the text is off the grammar
 unfoldable pub said : Place → List ℕ → Option (Place × Option Line)
-said Between text = do
-  line ← line_of text
-  Some (after_line line)
+said Between text = after_read (line_of text)
 said (Within table lines) text =
     if is_end text then Some (Between, Some (Table table lines))
     else (do

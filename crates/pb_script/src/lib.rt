@@ -12,6 +12,7 @@ pub mod laws;
 mod line;
 mod lines;
 mod script;
+mod sets;
 mod spelling;
 mod table_line;
 mod table_lines;

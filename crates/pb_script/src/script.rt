@@ -3,14 +3,17 @@ ghost use Rattle.std.specs.Io.BufRead.{strip_last};
 ghost use Rattle.pb_script.specs.Answers.{Gives};
 ghost use Rattle.pb_script.specs.Texts.{texts_of};
 ghost use Rattle.pb_script.specs.Words.{is_skipped};
-ghost use Rattle.pb_script.specs.Script.{Lines, Fault, after_line, with_lines, said, step, lines_of};
+ghost use Rattle.pb_script.specs.Lines.{set_line};
+ghost use Rattle.pb_script.specs.Script.{Lines, Fault, after_line, after_read, with_lines, said, step, lines_of};
 
 use crate::cuts::cut;
 use crate::fault::WordFault;
 use crate::fields::first_word;
 use crate::lines::read_line;
+use crate::sets::set_words;
+use crate::spelling::read_string;
 use crate::table_lines::{is_end, read_table_line};
-use crate::{ByteString, Line, ParseError, TableLine, TableLines};
+use crate::{ByteString, Command, Line, ParseError, TableLine, TableLines};
 use std::alloc::Global;
 use std::mem::replace;
 
@@ -120,9 +123,46 @@ fn said(
     ensures { Gives (λ x. (place.new, lines.new.items)) result (with_lines lines.old.items (said place.old text.now)) }
 {
     match replace(place, Place::Between) {
-        Place::Between => keep(place, lines, read_line(alloc, text)?),
+        Place::Between => said_between(alloc, place, lines, text),
         Place::Within(table, block) => said_within(alloc, table, block, place, lines, text),
     }
+}
+
+#[tactic(auto, unfolding(crate::specs::Script::said))]
+fn said_between(
+    alloc: Global,
+    place: &mut Place,
+    lines: &mut Vec<Line>,
+    text: &[u8],
+) -> Result<(), WordFault>
+    ensures { Gives (λ x. (place.new, lines.new.items)) result (with_lines lines.old.items (said Place.Between text.now)) }
+{
+    if let Some(words) = set_words(text) {
+        *place = Place::Between;
+        return keep_set(alloc, lines, words.store, words.key, words.value);
+    }
+    keep(place, lines, read_line(alloc, text)?)
+}
+
+/// Appends the line that the words of a `set` say.
+#[tactic(auto, unfolding(crate::specs::Lines::set_line))]
+fn keep_set(
+    alloc: Global,
+    lines: &mut Vec<Line>,
+    store: u64,
+    key: &[u8],
+    value: &[u8],
+) -> Result<(), WordFault>
+    ensures { Gives (λ x. (Place.Between, lines.new.items)) result (with_lines lines.old.items (after_read (set_line store key.now value.now))) }
+{
+    let key = read_string(alloc, key)?;
+    let value = read_string(alloc, value)?;
+    // The strings are made last, and the line where it is to stand: each move of a line costs as much as its reading.
+    lines.push(Line::Whole {
+        store,
+        command: Command::Set { key, value },
+    })?;
+    Ok(())
 }
 
 /// Appends a line, or begins the block of a table.

@@ -1,11 +1,11 @@
 -- A script whose texts each say lines alone, as scripts of their own, says these lines.
-use Rattle.std.proofs.Common.{◌≡◌, ℕ, ◌+◌, ◌-◌, ◌==◌, Bool, true, false, cond, if◌then◌else◌, List, [], ◌∷◌, ◌++◌, length, take, zero, suc, Option, Some, None, unwrap_or, refl, sym, ap, ◌∙◌, subst, append-nil, arith}
+use Rattle.std.proofs.Common.{◌≡◌, ℕ, ◌-◌, ◌==◌, false, List, [], ◌∷◌, ◌++◌, length, take, zero, suc, Option, Some, None, refl, sym, ap, ◌∙◌, subst, append-nil, arith}
 use Rattle.std.specs.List.{All, AllByRecursion, flat_map, slice_split, onto_first}
 use Rattle.std.specs.Io.BufRead.{strip_last, ends_with_byte}
-use Rattle.std.proofs.lemmas.Bool.{cond_both, cond-false, false≢true}
+use Rattle.std.proofs.lemmas.Bool.{cond_both, cond-false}
 use Rattle.std.proofs.lemmas.Bool.Decides.{nat_tests}
 use Rattle.std.proofs.lemmas.List.Splits.{slice_split_none}
-use Rattle.pb_script.specs.Script.{ScriptRead, Lines, Fault, step, ended, behind_text, at_last, read_texts, lines_of}
+use Rattle.pb_script.specs.Script.{ScriptRead, Lines, Fault, step, ended, behind_text, read_texts, lines_of}
 use Rattle.pb_script.specs.Texts.{texts_of, lines_of_parts}
 use Rattle.pb_script.specs.declared.line.Line.{Line}
 use Rattle.pb_script.specs.declared.script.Place.{Place}

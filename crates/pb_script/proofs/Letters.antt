@@ -1,5 +1,5 @@
 -- A line whose first word is one byte is no other than a store's command.
-use Rattle.std.proofs.Common.{◌≡◌, ℕ, Bool, true, false, cond, ◌&&◌, List, [], ◌∷◌, Option, Some, None, refl, ◌∙◌}
+use Rattle.std.proofs.Common.{◌≡◌, ℕ, Bool, true, false, cond, ◌&&◌, List, [], ◌∷◌, Some, refl, ◌∙◌}
 use Rattle.std.specs.Prelude.{◌==◌}
 use Rattle.pb_script.specs.Strings.{store_of}
 use Rattle.pb_script.specs.Lines.{whole_named, family_line, line_named}

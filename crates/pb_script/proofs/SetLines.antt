@@ -10,7 +10,6 @@ use Rattle.pb_script.specs.Fields.{word_at, string_at, pair_at, at_end}
 use Rattle.pb_script.specs.Commands.{set_of, command_named, command_of}
 use Rattle.pb_script.specs.Lines.{whole_named, line_named, line_of, set_line}
 use Rattle.pb_script.specs.declared.command.Command.{Command}
-use Rattle.pb_script.specs.declared.line.Line.{Line}
 use Rattle.pb_script.specs.declared.line.Line.TheVariants.{Whole}
 use Rattle.pb_script.proofs.Letters.{letter_line}
 

@@ -1,5 +1,5 @@
 -- The bytes of a byte string, wherever they stand.
-use Rattle.std.specs.Prelude.{ℕ, ◌≤◌, ◌≡◌, List, length, take}
+use Rattle.std.specs.Prelude.{ℕ, ◌≤◌, List, take}
 use Rattle.pb_script.specs.declared.byte_string.Held.{Held}
 use Rattle.pb_script.specs.declared.byte_string.Held.TheVariants.{Here, Apart}
 

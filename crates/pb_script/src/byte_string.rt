@@ -39,6 +39,7 @@ impl Model for ByteString {
 
 impl ByteString {
     /// A copy of these bytes.
+    #[inline(always)]
     pub fn new(alloc: Global, from: &[u8]) -> Result<ByteString, AllocError>
         ensures ok { IfOk result (λ string. string ≡ from.now) }
     {
@@ -64,6 +65,7 @@ impl ByteString {
     }
 }
 
+#[inline(always)]
 fn held_here(from: &[u8]) -> Held
     requires { length from.now ≤ 14 }
     ensures bytes { held_bytes result ≡ from.now }
@@ -72,4 +74,20 @@ fn held_here(from: &[u8]) -> Held
     let mut bytes = [0; ROOM];
     bytes[..from.len()].copy_from_slice(from);
     Held::Here(from.len() as u8, bytes)
+}
+
+#[cfg(test)]
+mod tests {
+    use super::*;
+    use std::test::Fail;
+
+    #[test]
+    fn bytes_are_those_that_were_given(rt: HostRuntime) -> Result<(), Fail> {
+        let text = b"0123456789abcdef";
+        for length in 0..17 {
+            let string = ByteString::new(rt.alloc(), &text[..length])?;
+            assert_eq!(rt; string.as_slice(), &text[..length], "{length} bytes");
+        }
+        Ok(())
+    }
 }

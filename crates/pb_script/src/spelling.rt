@@ -11,6 +11,8 @@ use pb_names::is_name;
 use std::alloc::{AllocError, Global};
 
 /// The byte string that a word spells.
+// Inlined, since a string that is handed on costs as much as one that is read.
+#[inline(always)]
 #[tactic(auto, unfolding(crate::specs::Strings::string_of))]
 pub fn read_string(alloc: Global, word: &[u8]) -> Result<ByteString, WordFault>
     ensures { Gives (λ x. x) result (string_of word.now) }
@@ -40,6 +42,7 @@ fn is_plain(byte: u8) -> bool
     byte.is_ascii_graphic() && byte != b'%'
 }
 
+#[inline(never)]
 fn read_coded(alloc: Global, word: &[u8]) -> Result<ByteString, WordFault>
     ensures { Gives (λ x. x) result (bytes_of word.now) }
 {

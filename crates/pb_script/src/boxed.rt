@@ -41,3 +41,17 @@ impl<T: Drop> Boxed<T> {
         })
     }
 }
+
+#[cfg(test)]
+mod tests {
+    use super::*;
+    use std::test::Fail;
+
+    #[test]
+    fn a_value_is_kept(rt: HostRuntime) -> Result<(), Fail> {
+        let boxed = Boxed::new(rt.alloc(), 7)?;
+        assert_eq!(rt; *boxed.get(), 7);
+        assert_eq!(rt; boxed.into_inner(), 7);
+        Ok(())
+    }
+}

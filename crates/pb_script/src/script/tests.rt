@@ -124,6 +124,20 @@ fn commands_on_rows_are_read(rt: HostRuntime) -> Result<(), Fail> {
 }
 
 #[test]
+fn long_strings_are_read(rt: HostRuntime) -> Result<(), Fail> {
+    let script =
+        b"A set 0123456789abcd 0123456789abcde\nA set %30123456789abcd %30123456789abcde\n";
+    let lines = parse(rt.alloc(), script)?;
+    assert_eq!(rt; lines.len(), 2);
+    for line in &lines {
+        assert!(rt;
+            matches!(line, Line::Whole { store: 1, command: Command::Set { key, value } } if is(key, b"0123456789abcd") && is(value, b"0123456789abcde"))
+        );
+    }
+    Ok(())
+}
+
+#[test]
 fn commands_on_tables_are_read(rt: HostRuntime) -> Result<(), Fail> {
     let script =
         b"A ingest t u\nstart A excise a b\nA ingestexcise a b t\nA external e a b suffix=%40 \nA lend a b as h\nA receive h\nA pin as p\nA external e a b prefix=% suffix=s\n";

@@ -1,0 +1,125 @@
+#!/usr/bin/env python3
+"""Times the parse of a script of 16 MiB of `A set k v` lines beside a plain pass over its bytes, in one built program and in
+processor time. Prints nine rounds, the best parse over the best pass, and how many bytes a script byte the parse holds at its peak.
+
+    python3 bench/parse_script.py [FOLDER]
+
+The program stands over a copy of the crates in a folder of its own, since it belongs to nothing that is released. Its first build
+proves these crates, so a FOLDER that is kept saves minutes."""
+import os
+import re
+import shutil
+import subprocess
+import sys
+import tempfile
+
+TOP = os.path.dirname(os.path.dirname(os.path.abspath(__file__)))
+CRATES = ["pb_keys", "pb_names", "pb_reply", "pb_script"]
+LENGTH = 16_777_210
+PROGRAM = """//! Times the parse of a script beside a plain pass over its bytes.
+#![tactic(auto)]
+
+use pb_script::parse;
+use std::env;
+use std::io;
+use std::time::CpuClock;
+
+const LINES: usize = 1_677_721;
+
+fn script(rt: &HostRuntime) -> io::Result<Vec<u8>> {
+    let mut script = Vec::new(rt.alloc());
+    for _ in 0..LINES {
+        script.extend_from_slice(b"A set k v\\n")?;
+    }
+    Ok(script)
+}
+
+/// A sum in which each byte waits for the one before.
+fn pass(script: &[u8]) -> u64 {
+    let mut sum: u64 = 0;
+    for byte in script {
+        sum = sum.wrapping_mul(31).wrapping_add(*byte as u64);
+    }
+    sum
+}
+
+/// Prints the microseconds of a pass and of a parse, and the number of lines.
+fn round(rt: &HostRuntime, script: &[u8]) -> io::Result<()> {
+    let start = rt.thread_cpu_time()?;
+    let sum = pass(script);
+    let passed = rt.thread_cpu_time()?;
+    let lines = parse(rt.alloc(), script);
+    let parsed = rt.thread_cpu_time()?;
+    let number = match &lines {
+        Ok(lines) => lines.len(),
+        Err(_) => 0,
+    };
+    drop(lines);
+    let pass = passed.saturating_sub(start).as_micros();
+    let parse = parsed.saturating_sub(passed).as_micros();
+    println!(rt; "{pass} {parse} {number} {sum}")
+}
+
+/// Nine rounds, or with any word a pass alone, which shows the memory that the script takes.
+fn main(rt: HostRuntime) -> io::Result<()> {
+    let script = script(&rt)?;
+    if env::args(&rt)?.count() > 1 {
+        let sum = pass(script.as_slice());
+        return println!(rt; "{sum}");
+    }
+    for _ in 0..9 {
+        round(&rt, script.as_slice())?;
+    }
+    Ok(())
+}
+"""
+
+
+def write(path, text):
+    os.makedirs(os.path.dirname(path), exist_ok=True)
+    with open(path, "w") as file:
+        file.write(text)
+
+
+def build(folder):
+    for crate in CRATES:
+        for part in ("src", "specs", "proofs"):
+            there = os.path.join(folder, "crates", crate, part)
+            shutil.rmtree(there, ignore_errors=True)
+            shutil.copytree(os.path.join(TOP, "crates", crate, part), there)
+    with open(os.path.join(TOP, "crates.txt")) as file:
+        kept = [line for line in file if line.split(":")[0] in CRATES]
+    write(os.path.join(folder, "crates.txt"), "".join(kept) + "parse_bench: pb_script\n")
+    shutil.copy(os.path.join(TOP, "HANDLES"), folder)
+    home = os.path.join(folder, "crates", "parse_bench")
+    write(os.path.join(home, "src", "main.rt"), PROGRAM)
+    # A word, so that what is run here to the end of the build is the short run.
+    subprocess.run(["rt", "run", "--", "build"], cwd=home, check=True, stdout=subprocess.DEVNULL)
+    return os.path.join(home, "out", "parse_bench")
+
+
+def run(program, *words):
+    """The lines that the program prints, and the most memory that it held, in bytes."""
+    child = subprocess.Popen([program, *words], stdout=subprocess.PIPE, text=True)
+    printed = child.stdout.read()
+    _, status, usage = os.wait4(child.pid, 0)
+    if status != 0:
+        sys.exit(f"{program}: status {status}")
+    return printed.splitlines(), usage.ru_maxrss * 1024
+
+
+def main():
+    folder = sys.argv[1] if len(sys.argv) > 1 else tempfile.mkdtemp()
+    program = build(folder)
+    _, without = run(program, "pass")
+    lines, peak = run(program)
+    rounds = [[int(word) for word in re.findall(r"\d+", line)] for line in lines]
+    for passed, parsed, number, _ in rounds:
+        print(f"pass {passed / 1000:.1f} ms, parse {parsed / 1000:.1f} ms, {number} lines")
+    passed, parsed = (min(round[at] for round in rounds) for at in (0, 1))
+    print(f"best: parse {parsed / 1000:.1f} ms, {parsed / passed:.1f} passes; first parse {rounds[0][1] / passed:.1f} passes")
+    print(f"peak: {(peak - without) / LENGTH:.1f} bytes a script byte")
+
+
+if __name__ == "__main__":
+    main()

@@ -20,3 +20,6 @@ pub use files::File;
 pub use pairs::Pairs;
 pub use said::{Said, said_by};
 pub use standing::stands;
+
+#[cfg(test)]
+mod tests;

@@ -1,20 +1,12 @@
 -- A catalogue says an id alone.
-use Rattle.std.proofs.Common.{◌≡◌, ℕ, ◌<◌, ◌^◌, List, [], ◌∷◌, ◌++◌, map, refl, sym, ap, ◌∙◌, Option, Some, None}
+use Rattle.std.proofs.Common.{◌≡◌, ℕ, List, [], ◌∷◌, map, sym, ap, ◌∙◌, Some}
 use Rattle.std.specs.List.{All}
-use Rattle.std.specs.Option.{option_map}
 use Rattle.std.proofs.lemmas.Bool.{false≢true}
 use Rattle.std.proofs.lemmas.List.Elements.{All-head, All-tail}
 use Rattle.pb_payloads.specs.Catalogued.{Catalogued, IsCatalogued, catalogued_spelling}
 use Rattle.pb_payloads.specs.Catalogued.Catalogued.{Id, Entered, Dropped}
 use Rattle.pb_payloads.specs.Catalogued.Standing.{Shared, External}
-use Rattle.pb_payloads.specs.Catalogue.{Catalogue, Entries, SaysCatalogue, folded, with_id, entries_from}
-
--- kinds other than that of an id are refused
-is_id : (said : Catalogued) → IsCatalogued said → (id : ℕ) × (said ≡ Id id)
-is_id (Id id) is = (id, refl)
-is_id (Entered number (Shared object)) is = absurd (false≢true is.kind)
-is_id (Entered number (External name)) is = absurd (false≢true is.kind)
-is_id (Dropped number) is = absurd (false≢true is.kind)
+use Rattle.pb_payloads.specs.Catalogue.{Catalogue, Entries, SaysCatalogue, folded, with_id}
 
 -- the id stands alone
 pub record SaysAlone (payloads : List (List ℕ)) (id : ℕ) (entries : Entries) : Type 0 where

@@ -62,9 +62,6 @@ pub record AlikeOn (first now : VersionView) (payloads left : List (List ℕ)) :
   pub all : (new : VersionView) → FoldsOn now left new → FoldsOn first payloads new
   pub back : (new : VersionView) → FoldsOn first payloads new → FoldsOn now left new
 
-pub alike_first : (first : VersionView) (payloads : List (List ℕ)) → AlikeOn first first payloads payloads
-alike_first first payloads = record { all = λ new on. on; back = λ new on. on }
-
 pub alike_more : (first old mid : VersionView) (payloads : List (List ℕ)) (payload : List ℕ) (rest : List (List ℕ))
     → AlikeOn first old payloads (payload ∷ rest) → Follows payload old mid → AlikeOn first mid payloads rest
 alike_more first old mid payloads payload rest alike follows = record {
@@ -79,13 +76,6 @@ pub none_left : (version : VersionView) → FoldsOn version [] version
 none_left version = record { edits = []; spelled = refl; in_form = All-nil IsEdit; folds = refl }
 
 -- ---- what they say
-
-no_edit : (edits : List VersionEdit) → [] ≡ map edit_spelling edits → edits ≡ []
-no_edit [] none = refl
-no_edit (edit ∷ edits) none = cc
-
-pub nothing_said : (version : VersionView) → SaysVersion [] version → ⊥
-nothing_said version says = says.folds.some (no_edit says.edits says.spelled)
 
 pub on_says : (payloads : List (List ℕ)) (version : VersionView) → (payloads ≡ [] → ⊥) → FoldsOn empty_version payloads version → SaysVersion payloads version
 on_says payloads version some on = record {

@@ -1,8 +1,7 @@
 -- What the payloads of a log that are left say, behind the entries that were read.
-use Rattle.std.proofs.Common.{◌≡◌, ℕ, ◌<◌, List, [], ◌∷◌, ◌++◌, map, refl, sym, ap, ◌∙◌, subst, append_assoc}
-use Rattle.std.proofs.lemmas.List.Elements.{All-nil, All-cons, All-head, All-tail}
-use Rattle.std.specs.List.{All}
-use Rattle.pb_payloads.specs.Log.{LogEntry, IsEntry, entry_spelling, RiseAbove, SaysLog}
+use Rattle.std.proofs.Common.{◌≡◌, ℕ, List, [], ◌∷◌, ◌++◌, map, sym, ◌∙◌, subst, append_assoc}
+use Rattle.std.proofs.lemmas.List.Elements.{All-cons, All-head, All-tail}
+use Rattle.pb_payloads.specs.Log.{LogEntry, IsEntry, entry_spelling, SaysLog}
 use Rattle.pb_payloads.proofs.LoggedLaws.{one_entry}
 use Rattle.pb_folder_tests.specs.Left.{IsNext}
 
@@ -50,9 +49,6 @@ next_among last payload rest (entry ∷ later) says = record {
 pub record IsReadUpTo (flushed last : ℕ) (payloads left : List (List ℕ)) (so_far : List LogEntry) : Type 0 where
   pub all : (rest : List LogEntry) → SaysLog last left rest → SaysLog flushed payloads (so_far ++ rest)
   pub back : (log : List LogEntry) → SaysLog flushed payloads log → (rest : List LogEntry) × SaysLog last left rest
-
-pub read_none : (flushed : ℕ) (payloads : List (List ℕ)) → IsReadUpTo flushed flushed payloads payloads []
-read_none flushed payloads = record { all = λ rest says. says; back = λ log says. (log, says) }
 
 pub read_more : (flushed last : ℕ) (payloads : List (List ℕ)) (payload : List ℕ) (rest : List (List ℕ)) (so_far : List LogEntry) (entry : LogEntry)
     → IsReadUpTo flushed last payloads (payload ∷ rest) so_far → IsNext last payload entry → IsReadUpTo flushed entry.count payloads rest (so_far ++ entry ∷ [])

@@ -10,7 +10,6 @@ use Rattle.pb_devices.specs.Objects.{Objects}
 use Rattle.pb_edit.specs.Edit.{CreatedItem}
 use Rattle.pb_folder.specs.Held.{Holds, IsLocal, IsMapped, IsStored, IsTableOf, bytes_of, stored_in, waiting_in, waiting_of}
 use Rattle.pb_folder.specs.Meaning.{after_log, said_count}
-use Rattle.pb_folder.specs.Meaning as folder
 use Rattle.pb_folder.specs.Said.{Said, Says}
 use Rattle.pb_folder.specs.StandsFor.{StandsFor}
 use Rattle.pb_folder.proofs.SaidLaws.{one_said}
@@ -24,11 +23,11 @@ use Rattle.pb_rows.specs.Applied.{applied_newest_first}
 use Rattle.pb_rows.specs.Layer.{KeyLayer}
 use Rattle.pb_version.specs.Version.{VersionView, all_tables}
 use Rattle.pb_version.proofs.MeaningLaws.{map_of-newest_first}
-use Rattle.pb_wal.specs.Changes.{changing_of, entry_of, logged_of}
+use Rattle.pb_wal.specs.Changes.{entry_of, logged_of}
 use Rattle.pb_wal.specs.declared.entry.Change.{Change}
 use Rattle.pb_wal.specs.declared.entry.Change.TheVariants.{Set, Del, DelRange}
 use Rattle.pb_wal.specs.declared.entry.Entry.{Entry}
-use Rattle.pb_folder_tests.specs.Said.{pointer_to, said_of}
+use Rattle.pb_folder_tests.specs.Said.{said_of}
 use Rattle.pb_folder_tests.specs.Tables.{HasTable, ShowsAll}
 use Rattle.pb_folder_tests.proofs.Reading.{found_is}
 
@@ -63,11 +62,6 @@ none_wait : (log : List Entry) → waiting_in (map entry_of log) ≡ []
 none_wait [] = refl
 none_wait (entry ∷ log) = λ i. none_waits entry.change i ++ none_wait log i
 
-pub same_changing : (layers : ℕ → KeyLayer) (change : Change) → folder.changing_of layers (logged_of change) ≡ changing_of change
-same_changing layers (Set key value) = refl
-same_changing layers (Del key) = refl
-same_changing layers (DelRange span) = refl
-
 -- ---- a count and a map
 
 pub stands_of : (folder : Folder) (objects : Objects) (id : ℕ) (pointer : Pointer) (version : VersionView) (log : List Entry) (shown : List KeyLayer)
@@ -100,11 +94,6 @@ not_new (Some bytes) list found some none =
     some (same ∙ none)
 
 module _ (folder : Folder) (objects : Objects) (id n : ℕ) (m : Map) (list : List (List ℕ)) (found : Some list ≡ option_map payloads (folder current_name)) (some : list ≡ [] → ⊥) where
-  pub nothing_named : ((pointer : Pointer) → SaysCurrent list pointer → ⊥) → StandsFor folder objects id n m → ⊥
-  nothing_named none (inl new) = not_new (folder current_name) list found some new.0
-  nothing_named none (inr means) =
-      none means.said.pointer (found_is (folder current_name) list (λ list. SaysCurrent list means.said.pointer) found means.says.current)
-
   pub nothing_said : (pointer : Pointer) → SaysCurrent list pointer → ((said : Said) → said.pointer ≡ pointer → Says folder id said → ⊥)
       → StandsFor folder objects id n m → ⊥
   nothing_said pointer current none (inl new) = not_new (folder current_name) list found some new.0

@@ -31,11 +31,6 @@ found_is (Some bytes) list AreSuch found such =
     let same : list ≡ payloads bytes = cc in
     subst AreSuch (sym same) such
 
-pub found_none : (file : Option (List ℕ)) (AreSuch : List (List ℕ) → Type 0) → None ≡ option_map payloads file
-    → IsSomeAnd file (λ bytes. AreSuch (payloads bytes)) → ⊥
-found_none None AreSuch found such = such
-found_none (Some bytes) AreSuch found such = cc
-
 module _ (folder : Folder) (id : ℕ) (said : Said) (manifest catalogue : ℕ) (at : said.pointer ≡ pointer_to manifest catalogue) (says : Says folder id said) where
   pub manifest_says : HasPayloads folder (file_name Manifest manifest) (λ list. SaysVersion list said.version)
   manifest_says = subst (λ (p : Pointer). HasPayloads folder (file_name Manifest p.manifest) (λ list. SaysVersion list said.version)) at says.manifest

@@ -1,6 +1,5 @@
 -- Facts about the value of an answer.
-use Rattle.std.proofs.Common.{◌≡◌, Option, Some, None, Result, Ok, Err, IfOk, IfErr, IfSome, IfNone, subst}
-use Rattle.std.specs.Prelude.{IsSomeAnd}
+use Rattle.std.proofs.Common.{◌≡◌, Option, Some, None, Result, Ok, Err, IfOk, IfSome, IfNone, subst}
 use Rattle.pb_folder_tests.specs.Faults.{IfDamaged}
 use Rattle.pb_folder_tests.specs.declared.fault.Fault.{Fault}
 use Rattle.pb_folder_tests.specs.declared.fault.Fault.TheVariants.{Damaged, NoMemory}
@@ -8,10 +7,6 @@ use Rattle.pb_folder_tests.specs.declared.fault.Fault.TheVariants.{Damaged, NoMe
 pub if_ok : {T E : Type 0} (r : Result T E) (P Q : T → Type 0) → ((x : T) → P x → Q x) → IfOk r P → IfOk r Q
 if_ok (Ok x) P Q f h = f x h
 if_ok (Err e) P Q f h = h
-
-pub if_some : {T : Type 0} (o : Option T) (P Q : T → Type 0) → ((x : T) → P x → Q x) → IfSome o P → IfSome o Q
-if_some None P Q f h = h
-if_some (Some x) P Q f h = f x h
 
 pub if_some_both : {T : Type 0} (o : Option T) (P Q R : T → Type 0) → ((x : T) → P x → Q x → R x) → IfSome o P → IfSome o Q → IfSome o R
 if_some_both None P Q R f h k = h

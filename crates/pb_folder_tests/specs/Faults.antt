@@ -1,5 +1,4 @@
 -- What a refusal says.
-use Rattle.std.specs.Prelude.{ℕ, List}
 use Rattle.pb_folder_tests.specs.declared.fault.Fault.{Fault}
 use Rattle.pb_folder_tests.specs.declared.fault.Fault.TheVariants.{Damaged, NoMemory}
 

@@ -1,5 +1,5 @@
 -- Rows with keys of their own.
-use Rattle.std.specs.Prelude.{◌≡◌, Bool, ◌&&◌, not, true, List, [], ◌∷◌, nat_eq}
+use Rattle.std.specs.Prelude.{Bool, ◌&&◌, not, true, List, [], ◌∷◌, nat_eq}
 use Rattle.std.specs.List.{list_any}
 use Rattle.std.specs.Cmp.Lexicographic.{pointwise}
 use Rattle.pb_rows.specs.Layer.{KeyRow}

@@ -2,7 +2,7 @@
 use Rattle.std.specs.Prelude.{◌≡◌, ℕ, List, [], ◌∷◌, All, IsSomeAnd, map}
 use Rattle.pb_devices.specs.Contents.{Folder}
 use Rattle.pb_edit.specs.Edit.{CreatedItem}
-use Rattle.pb_folder.specs.Held.{IsMapped, IsTableOf, backing_of, stored_in}
+use Rattle.pb_folder.specs.Held.{IsMapped, IsTableOf, stored_in}
 use Rattle.pb_names.specs.Spelling.{file_name}
 use Rattle.pb_names.specs.declared.file_kind.FileKind.TheVariants.{Table}
 use Rattle.pb_rows.specs.Layer.{KeyLayer}

@@ -1,4 +1,4 @@
-use Rattle.std.proofs.Common.{[], arith, sym, ◌∙◌, drop}
+use Rattle.std.proofs.Common.{[], sym, ◌∙◌, drop}
 use Rattle.std.proofs.lemmas.List.{append-nil}
 use Rattle.pb_bytes.specs.Varint.{varint}
 use Rattle.pb_bytes.proofs.ReadingLemmas.{one_varint, varint_at-some}

@@ -1,7 +1,5 @@
-use Rattle.std.proofs.Common.{◌≡◌, [], ◌∷◌, ℕ, List, length, sym, ap, ◌∙◌, subst, arith}
+use Rattle.std.proofs.Common.{[], ◌∷◌, ℕ, List, length, sym, ap, ◌∙◌, subst, arith}
 use Rattle.pb_payloads.specs.Catalogue.{SaysCatalogue, with_id}
-use Rattle.pb_payloads.specs.Catalogued.{catalogued_spelling}
-use Rattle.pb_payloads.specs.Catalogued.Catalogued.{Id}
 use Rattle.pb_payloads.proofs.CataloguedLaws.{first_catalogue}
 use Rattle.pb_folder_tests.proofs.Catalogues.{says_alone}
 use Rattle.pb_folder_tests.proofs.Lists.{only_one}

@@ -1,7 +1,6 @@
-use Rattle.std.proofs.Common.{◌≡◌, ◌∙◌, ap, List}
-use Rattle.pb_keys.specs.Span.{KeySpan}
+use Rattle.std.proofs.Common.{◌∙◌, ap}
 use Rattle.pb_rows.specs.Applied.{applied, with_rows, without_all}
-use Rattle.pb_rows.specs.Layer.{KeyLayer, KeyRow}
+use Rattle.pb_rows.specs.Layer.{KeyLayer}
 use Rattle.pb_folder_tests.proofs.meaning.apply.Goals as goal
 
 pub returns : goal.returns

@@ -1,6 +1,6 @@
 use Rattle.std.proofs.Common.{◌≡◌, ◌+◌, ℕ, true, false, List, take, drop, sym, ap, ◌∙◌, subst, arith}
 use Rattle.std.proofs.lemmas.List.{take_rest}
-use Rattle.pb_gate_log.specs.Payloads.{begins_entry, len_behind, payloads}
+use Rattle.pb_gate_log.specs.Payloads.{begins_entry, len_behind}
 use Rattle.pb_folder_tests.proofs.Gates.{StandsAt, last_gate, next_gate}
 use Rattle.pb_folder_tests.proofs.payloads.payloads_of.Goals as goal
 

@@ -1,4 +1,4 @@
-use Rattle.std.proofs.Common.{◌≡◌, List, ℕ, Some, None, sym, ap, ◌∙◌}
+use Rattle.std.proofs.Common.{◌≡◌, Some, None, sym, ap, ◌∙◌}
 use Rattle.std.specs.List.{last_or}
 use Rattle.pb_payloads.specs.Current.{Pointer, IsPointer, SaysCurrent, pointer_spelling}
 use Rattle.pb_folder_tests.specs.Said.{pointer_to}

@@ -1,4 +1,4 @@
-use Rattle.std.proofs.Common.{◌≡◌, Option, IfSome, sym, ap, ◌∙◌, subst}
+use Rattle.std.proofs.Common.{◌≡◌, Option, IfSome, ◌∙◌, subst}
 use Rattle.pb_keys.specs.Span.{KeySpan, IsSpan}
 use Rattle.pb_rows.specs.Viewed.{mapped_span}
 use Rattle.pb_folder_tests.proofs.Lists.{All_next, map_next}

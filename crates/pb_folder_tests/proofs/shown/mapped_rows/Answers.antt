@@ -1,4 +1,4 @@
-use Rattle.std.proofs.Common.{◌≡◌, Option, IfSome, sym, ap, ◌∙◌, subst}
+use Rattle.std.proofs.Common.{◌≡◌, Option, IfSome, ◌∙◌, subst}
 use Rattle.pb_keys.specs.Key.{IsKey}
 use Rattle.pb_rows.specs.Layer.{KeyRow}
 use Rattle.pb_rows.specs.Viewed.{mapped_key, mapped_row}

@@ -5,7 +5,7 @@ use Rattle.std.proofs.lemmas.Result.{err_from_is_err_and}
 use Rattle.pb_devices.specs.Objects.{Objects}
 use Rattle.pb_folder.specs.Listed.{folder_of}
 use Rattle.pb_folder.specs.Meaning.{after_log, said_count}
-use Rattle.pb_folder.specs.Said.{Said, Says}
+use Rattle.pb_folder.specs.Said.{Says}
 use Rattle.pb_folder.specs.StandsFor.{StandsFor}
 use Rattle.pb_gate_log.specs.Payloads.{payloads}
 use Rattle.pb_keys.specs.Map.{Map}

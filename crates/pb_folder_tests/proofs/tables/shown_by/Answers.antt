@@ -1,7 +1,7 @@
 use Rattle.std.proofs.Common.{◌≡◌, ℕ, List, map, subst, sym, ap, ◌∙◌}
 use Rattle.std.specs.List.{All}
 use Rattle.std.proofs.lemmas.Result.{err_from_is_err_and}
-use Rattle.pb_edit.specs.Edit.{CreatedItem, VersionEdit}
+use Rattle.pb_edit.specs.Edit.{VersionEdit}
 use Rattle.pb_folder.specs.Held.{IsMapped, backing_of}
 use Rattle.pb_folder.specs.Listed.{folder_of}
 use Rattle.pb_rows.specs.Layer.{KeyLayer}

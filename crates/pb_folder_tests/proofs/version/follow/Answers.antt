@@ -1,4 +1,4 @@
-use Rattle.std.proofs.Common.{◌≡◌, false, Bool, Option, Some, None, IfSome, sym, ap, ◌∙◌, subst, inl, inr}
+use Rattle.std.proofs.Common.{◌≡◌, false, Option, None, IfSome, sym, ap, ◌∙◌, subst, inl, inr}
 use Rattle.pb_edit.specs.Edit.{VersionEdit}
 use Rattle.pb_edit.specs.Grammar.{IsEdit, edit_spelling}
 use Rattle.pb_edit.proofs.Edits.{one_edit}

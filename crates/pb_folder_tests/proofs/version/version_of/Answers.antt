@@ -1,8 +1,8 @@
-use Rattle.std.proofs.Common.{◌≡◌, ◌+◌, ◌∷◌, [], length, ℕ, List, drop, sym, ap, ◌∙◌, subst, arith}
+use Rattle.std.proofs.Common.{◌≡◌, ◌+◌, ◌∷◌, [], ℕ, List, drop, sym, subst}
 use Rattle.std.proofs.lemmas.List.{drop_all}
 use Rattle.pb_version.specs.Version.{empty_version}
 use Rattle.pb_folder_tests.specs.Left.{FoldsOn}
-use Rattle.pb_folder_tests.proofs.Edits.{AlikeOn, alike_more, next_edit, none_left, nothing_said, on_says, says_on}
+use Rattle.pb_folder_tests.proofs.Edits.{AlikeOn, alike_more, next_edit, none_left, on_says, says_on}
 use Rattle.pb_folder_tests.proofs.Lists.{filled, item_first}
 use Rattle.pb_folder_tests.proofs.version.version_of.Goals as goal
 

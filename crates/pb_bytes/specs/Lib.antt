@@ -1,3 +1,4 @@
 pub mod BigEndian
+pub mod Number
 pub mod Reading
 pub mod Varint

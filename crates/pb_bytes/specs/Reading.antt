@@ -1,5 +1,5 @@
--- The number or the field that begins bytes, with the length of its spelling.
-use Rattle.std.specs.Prelude.{ℕ, zero, suc, ◌+◌, ◌*◌, ◌-◌, ◌^◌, ◌==◌, List, [], ◌∷◌, length, take, drop, nat_lt, nat_le, if◌then◌else◌, Option, Some, None, option_and_then}
+-- The number or the field that begins bytes, with the length of its spelling or with the bytes behind it.
+use Rattle.std.specs.Prelude.{ℕ, zero, suc, ◌+◌, ◌*◌, ◌-◌, ◌^◌, ◌==◌, List, [], ◌∷◌, length, take, drop, nat_lt, nat_le, if◌then◌else◌, Option, Some, None, option_map, option_and_then}
 
 -- with a lower group below it; a last group of 0 would be a longer spelling
 abbrev pub above : ℕ → Option (ℕ × ℕ) → Option (ℕ × ℕ)
@@ -28,3 +28,18 @@ if_within bytes read =
 
 unfoldable pub field_at : List ℕ → Option (List ℕ × ℕ)
 field_at bytes = option_and_then (if_within bytes) (varint_at bytes)
+
+-- ---- what is read, and the bytes behind it
+
+abbrev pub behind : {A : Type 0} → List ℕ → A × ℕ → A × List ℕ
+behind bytes read = (read.0, drop read.1 bytes)
+
+abbrev pub varint_split : List ℕ → Option (ℕ × List ℕ)
+varint_split bytes = option_map (behind bytes) (varint_at bytes)
+
+abbrev pub field_split : List ℕ → Option (List ℕ × List ℕ)
+field_split bytes = option_map (behind bytes) (field_at bytes)
+
+-- of a number below 2 ^ 62
+abbrev pub number_split : List ℕ → Option (ℕ × List ℕ)
+number_split bytes = option_map (behind bytes) (option_and_then (if_below (2 ^ 62)) (varint_at bytes))

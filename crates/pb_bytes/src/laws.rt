@@ -1,8 +1,11 @@
 //! What holds of the spellings, as contracts of functions that do nothing.
 
-ghost use Rattle.std.specs.Prelude.{ℕ, ◌≡◌, ◌<◌, ◌^◌, ◌++◌, List, length};
+ghost use Rattle.std.specs.Prelude.{ℕ, ◌≡◌, ◌<◌, ◌↔◌, ◌^◌, ◌++◌, List, length};
 ghost use Rattle.pb_bytes.specs.BigEndian.{be32, be64, number_of, AreBytes};
+ghost use Rattle.pb_bytes.specs.Number.{IsNumber};
 ghost use Rattle.pb_bytes.specs.Varint.{varint, field};
+
+use crate::NUMBERS;
 
 /// No varint begins another: a number has one, and what follows it is determined.
 pub fn one_varint()
@@ -28,4 +31,10 @@ pub fn each_eight_bytes()
     ensures spelled { (bytes : List ℕ) → length bytes ≡ 8 → AreBytes bytes → be64 (number_of bytes) ≡ bytes }
     ensures below { (bytes : List ℕ) → length bytes ≡ 8 → AreBytes bytes → number_of bytes < 2 ^ 64 }
     ensures only { (value : ℕ) → value < 2 ^ 64 → number_of (be64 value) ≡ value }
+{}
+
+/// The limit of the code is that of numbers.
+pub fn numbers_end_at_a_numeral()
+    ensures limit { NUMBERS ≡ 2 ^ 62 }
+    ensures numbers { (n : ℕ) → IsNumber n ↔ (n < NUMBERS) }
 {}

@@ -4,6 +4,9 @@ ghost use Rattle.pb_bytes.specs.Varint.{varint};
 
 use std::alloc::{AllocError, Global};
 
+/// Numbers, ranks, sizes and counts stand below this.
+pub const NUMBERS: u64 = 1 << 62;
+
 /// The longest varint, in bytes.
 const MAX_VARINT: usize = 10;
 

@@ -19,7 +19,7 @@ use Rattle.pb_keys.proofs.OrderFacts.{below-end_above}
 pub suffix_start_within : (key : List ℕ) → suffix_start key ≤ length key
 suffix_start_within key = prefix_len-le-length (λ b. not (b == at_sign)) key
 
-other_byte : (b : ℕ) → (b ≡ at_sign → ⊥) → (b == at_sign) ≡ false
+pub other_byte : (b : ℕ) → b ≢ at_sign → (b == at_sign) ≡ false
 other_byte b h = grind (arith, nat_tests)
 
 -- the place behind bytes of which none is '@', at an '@' or at the end

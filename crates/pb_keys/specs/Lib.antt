@@ -1,6 +1,9 @@
 pub mod Order
+pub mod Held
 pub mod Key
 pub mod KeyLaws
+pub mod Printed
 pub mod Span
 pub mod View
+pub mod Value
 pub mod Map

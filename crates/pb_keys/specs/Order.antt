@@ -1,5 +1,5 @@
 -- The order of bytes: the first byte that differs decides, and else the shorter is less.
-use Rattle.std.specs.Prelude.{ℕ, List, [], ◌∷◌, ◌++◌, Bool, not, IsTrue}
+use Rattle.std.specs.Prelude.{ℕ, List, [], ◌∷◌, ◌++◌, Bool, not, IsTrue, if◌then◌else◌}
 use Rattle.std.specs.declared.cmp.Ordering.{Ordering}
 use Rattle.std.specs.Ordering.{nat_cmp, is_lt}
 use Rattle.std.specs.Cmp.Lexicographic.{slice_cmp}
@@ -23,3 +23,9 @@ pub record LeastAbove (p end : List ℕ) : Type 0 where
 -- p followed by one zero byte
 abbrev pub end_above : List ℕ → List ℕ
 end_above p = p ++ 0 ∷ []
+
+abbrev pub lesser : List ℕ → List ℕ → List ℕ
+lesser a b = if is_below b a then b else a
+
+abbrev pub greater : List ℕ → List ℕ → List ℕ
+greater a b = if is_below a b then b else a

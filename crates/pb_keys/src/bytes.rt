@@ -1,12 +1,27 @@
-ghost use Rattle.std.specs.Prelude.{◌≡◌, IfOk};
+ghost use Rattle.std.specs.Prelude.{◌≡◌, ◌≤◌, IfOk, length};
+ghost use Rattle.pb_keys.specs.Held.{held_bytes, IsHeld};
 
 use std::alloc::{AllocError, Global};
 use std::marker::Model;
 
+/// The most bytes that stand in the value itself. With a length and a tag they fill two machine words.
+const ROOM: usize = 14;
+
 /// Some bytes, which contracts see as their list.
+///
+/// Up to 14 bytes stand in the value itself: keys and values are mostly short, and a block for each would cost more memory
+/// and time than all else.
 #[derive(Debug, Drop)]
 pub struct Bytes {
-    all: Vec<u8>,
+    held: Held,
+}
+
+/// Where the bytes stand.
+#[derive(Debug, Drop)]
+pub(crate) enum Held {
+    /// Here: the first ones of the room, so many.
+    Here(u8, [u8; ROOM]),
+    Apart(Box<Vec<u8>>),
 }
 
 impl Model for Bytes {
@@ -14,16 +29,58 @@ impl Model for Bytes {
 
     ghost Value = { List ℕ };
 
-    ghost view = { λ b. b.all.items };
+    ghost use Rattle.pb_keys.specs.Held.{held_bytes, IsHeld};
+
+    ghost view = { λ b. held_bytes b.held };
+
+    ghost invariant = { λ b. IsHeld b.held };
 }
 
 impl Bytes {
     /// A copy of these bytes.
+    #[inline(always)]
     pub fn new(alloc: Global, from: &[u8]) -> Result<Bytes, AllocError>
         ensures ok { IfOk result (λ bytes. bytes ≡ from.now) }
     {
+        if from.len() <= ROOM {
+            return Ok(Bytes {
+                held: held_here(from),
+            });
+        }
         let all = Vec::from_slice(alloc, from)?;
-        Ok(Bytes { all })
+        let apart = Box::new(alloc, all)?;
+        Ok(Bytes {
+            held: Held::Apart(apart),
+        })
+    }
+
+    /// These bytes. Above 14 none is copied: the block stays theirs.
+    pub fn from_vec(alloc: Global, from: Vec<u8>) -> Result<Bytes, AllocError>
+        ensures ok { IfOk result (λ bytes. bytes ≡ from.items) }
+    {
+        if from.len() <= ROOM {
+            return Ok(Bytes {
+                held: held_here(from.as_slice()),
+            });
+        }
+        let apart = Box::new(alloc, from)?;
+        Ok(Bytes {
+            held: Held::Apart(apart),
+        })
+    }
+
+    /// The bytes, to be changed. Above 14 none is copied.
+    pub fn into_vec(self, alloc: Global) -> Result<Vec<u8>, AllocError>
+        ensures ok { IfOk result (λ bytes. bytes.items ≡ self) }
+    {
+        let Bytes { held } = self;
+        match held {
+            Held::Here(len, bytes) => {
+                let bytes = Vec::from_slice(alloc, &bytes[..len as usize])?;
+                Ok(bytes)
+            }
+            Held::Apart(bytes) => Ok(Box::into_inner(bytes)),
+        }
     }
 
     /// Another value of the same bytes.
@@ -37,8 +94,22 @@ impl Bytes {
     pub fn as_slice(&self) -> &[u8]
         ensures { result.now ≡ self.now }
     {
-        self.all.as_slice()
+        match &self.held {
+            Held::Here(len, bytes) => &bytes[..*len as usize],
+            Held::Apart(bytes) => bytes.as_slice(),
+        }
     }
+}
+
+#[inline(always)]
+fn held_here(from: &[u8]) -> Held
+    requires { length from.now ≤ 14 }
+    ensures bytes { held_bytes result ≡ from.now }
+    ensures held { IsHeld result }
+{
+    let mut bytes = [0; ROOM];
+    bytes[..from.len()].copy_from_slice(from);
+    Held::Here(from.len() as u8, bytes)
 }
 
 impl PartialEq for Bytes {
@@ -59,23 +130,4 @@ impl Eq for Bytes {
     ghost use Rattle.std.specs.Cmp.Lexicographic.{nat_list_eq_equiv};
 
     ghost laws = { nat_list_eq_equiv };
-}
-
-#[cfg(test)]
-mod tests {
-    use super::*;
-    use std::test::Fail;
-
-    #[test]
-    fn bytes_are_those_that_were_given(rt: HostRuntime) -> Result<(), Fail> {
-        let bytes = Bytes::new(rt.alloc(), b"a@9\0")?;
-        assert_eq!(rt; bytes.as_slice(), b"a@9\0".as_slice());
-        let copy = bytes.copy(rt.alloc())?;
-        assert_eq!(rt; copy.as_slice(), b"a@9\0".as_slice());
-        assert!(rt; copy == bytes);
-        let none = Bytes::new(rt.alloc(), b"")?;
-        assert_eq!(rt; none.as_slice().len(), 0);
-        assert!(rt; none != bytes);
-        Ok(())
-    }
 }

@@ -1,5 +1,5 @@
-ghost use Rattle.std.specs.Prelude.{◌≡◌, ◌↔◌, IsTrue, IfOk, OnOk};
-ghost use Rattle.pb_keys.specs.Key.{IsKey, suffix_start, prefix_of, suffix_of};
+ghost use Rattle.std.specs.Prelude.{◌≡◌, ◌↔◌, IsTrue, IfNone, IfSome, IfOk, OnOk};
+ghost use Rattle.pb_keys.specs.Key.{IsKey, suffix_start, prefix_of, suffix_of, is_before};
 
 use super::Bytes;
 use std::alloc::{AllocError, Global};
@@ -8,6 +8,9 @@ use std::marker::Model;
 
 /// The longest key, in bytes.
 pub const MAX_KEY: usize = 1024;
+
+/// The longest value, in bytes.
+pub const MAX_VALUE: usize = 65_536;
 
 /// The byte with which a suffix begins.
 pub(crate) const AT: u8 = b'@';
@@ -69,6 +72,19 @@ impl Key {
         Ok(Key { bytes, split })
     }
 
+    /// The key of these bytes, or None where they are none.
+    pub fn read(alloc: Global, bytes: &[u8]) -> Result<Option<Key>, AllocError>
+        ensures some { IfOk result (λ found. IfSome found (λ key. key ≡ bytes.now)) }
+        ensures in_form { IfOk result (λ found. IfSome found (λ _. IsKey bytes.now)) }
+        ensures none { (result ≡ Ok None) ↔ ¬ (IsKey bytes.now) }
+    {
+        match Key::new(alloc, bytes) {
+            Ok(key) => Ok(Some(key)),
+            Err(KeyError::BadKey) => Ok(None),
+            Err(KeyError::NoMemory) => Err(AllocError),
+        }
+    }
+
     /// Another value of the same key.
     pub fn copy(&self, alloc: Global) -> Result<Key, AllocError>
         ensures ok { IfOk result (λ key. key ≡ self.now) }
@@ -102,6 +118,18 @@ impl Key {
         ensures in_form { IsKey self.now }
     {
         self.bytes.as_slice()
+    }
+
+    /// Whether the key is below the one with these parts.
+    #[tactic(auto, using(crate::proofs::OrderFacts::compares))]
+    pub fn is_below(&self, prefix: &[u8], suffix: &[u8]) -> bool
+        ensures { result ≡ is_before prefix.now suffix.now self.now }
+    {
+        match self.prefix().cmp(&prefix) {
+            Ordering::Less => true,
+            Ordering::Equal => self.suffix() < suffix,
+            Ordering::Greater => false,
+        }
     }
 }
 
@@ -176,6 +204,3 @@ impl Eq for Key {
 
     ghost laws = { nat_list_eq_equiv };
 }
-
-#[cfg(test)]
-mod tests;

@@ -1,6 +1,6 @@
-ghost use Rattle.std.specs.Prelude.{◌≡◌, ◌↔◌, IsTrue, IfOk, OnOk};
-ghost use Rattle.pb_keys.specs.Order.{is_below};
-ghost use Rattle.pb_keys.specs.Span.{IsEnd, IsSpan, span_of, holds_key, overlap};
+ghost use Rattle.std.specs.Prelude.{◌≡◌, ◌↔◌, IsTrue, IfNone, IfSome, IfOk, OnOk};
+ghost use Rattle.pb_keys.specs.Order.{is_below, lesser, greater};
+ghost use Rattle.pb_keys.specs.Span.{IsEnd, IsSpan, span_of, holds_key, overlap, joined};
 
 use super::key::AT;
 use super::{Bytes, Key};
@@ -60,9 +60,40 @@ impl Span {
         if !is_end(lo) || !is_end(hi) || hi <= lo {
             return Err(SpanError::BadSpan);
         }
+        let span = Span::between(alloc, lo, hi)?;
+        Ok(span)
+    }
+
+    /// The span with these ends, or None where they have none.
+    pub fn read(alloc: Global, lo: &[u8], hi: &[u8]) -> Result<Option<Span>, AllocError>
+        ensures some { IfOk result (λ found. IfSome found (λ span. span ≡ span_of lo.now hi.now)) }
+        ensures in_form { IfOk result (λ found. IfSome found (λ _. IsSpan (span_of lo.now hi.now))) }
+        ensures none { (result ≡ Ok None) ↔ ¬ (IsSpan (span_of lo.now hi.now)) }
+    {
+        match Span::new(alloc, lo, hi) {
+            Ok(span) => Ok(Some(span)),
+            Err(SpanError::BadSpan) => Ok(None),
+            Err(SpanError::NoMemory) => Err(AllocError),
+        }
+    }
+
+    /// The span with these ends, which are known to have one.
+    pub fn between(alloc: Global, lo: &[u8], hi: &[u8]) -> Result<Span, AllocError>
+        requires { IsSpan (span_of lo.now hi.now) }
+        ensures ok { IfOk result (λ span. span ≡ span_of lo.now hi.now) }
+    {
         let lo = Bytes::new(alloc, lo)?;
         let hi = Bytes::new(alloc, hi)?;
         Ok(Span { lo, hi })
+    }
+
+    /// The span from the lesser start to the greater end.
+    pub fn joined(alloc: Global, a: &Span, b: &Span) -> Result<Span, AllocError>
+        ensures ok { IfOk result (λ span. span ≡ joined a.now b.now) }
+    {
+        let lo = lesser_of(a.lo(), b.lo());
+        let hi = greater_of(a.hi(), b.hi());
+        Span::between(alloc, lo, hi)
     }
 
     /// Another value of the same span.
@@ -107,11 +138,22 @@ impl Span {
     }
 }
 
+#[tactic(auto, using(crate::proofs::OrderFacts::compares))]
+fn lesser_of<'a>(a: &'a [u8], b: &'a [u8]) -> &'a [u8]
+    ensures { result.now ≡ lesser a.now b.now }
+{
+    if b < a { b } else { a }
+}
+
+#[tactic(auto, using(crate::proofs::OrderFacts::compares))]
+fn greater_of<'a>(a: &'a [u8], b: &'a [u8]) -> &'a [u8]
+    ensures { result.now ≡ greater a.now b.now }
+{
+    if a < b { b } else { a }
+}
+
 fn is_end(bytes: &[u8]) -> bool
     ensures { IsTrue result ↔ IsEnd bytes.now }
 {
     !bytes.is_empty() && bytes.len() <= MAX_END && !bytes.contains(&AT)
 }
-
-#[cfg(test)]
-mod tests;

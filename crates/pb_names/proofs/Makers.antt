@@ -42,7 +42,7 @@ kind_of-ending Catalogue = refl
 kind_of-ending Log = refl
 kind_of-ending Table = refl
 
-ending_injective : (kind other : FileKind) → ending kind ≡ ending other → kind ≡ other
+pub ending_injective : (kind other : FileKind) → ending kind ≡ ending other → kind ≡ other
 ending_injective kind other e = sym (kind_of-ending kind) ∙ ap (λ text. kind_of (get_or text 1 0)) e ∙ kind_of-ending other
 
 pub file_name-injective : (kind other : FileKind) (m n : ℕ) → m < 2 ^ 64 → n < 2 ^ 64

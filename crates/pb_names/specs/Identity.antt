@@ -14,3 +14,7 @@ IsStore store = (1 ≤ store) × (store ≤ 8)
 pub record IsObject (object : Identity) : Type 0 where
   pub creator : IsStore object.creator
   pub number : object.number < 2 ^ 62
+
+-- a number that a store has for an object, as a marker's name tells it
+abbrev pub IsMarkerNumber : ℕ → Type 0
+IsMarkerNumber number = number < 2 ^ 62

@@ -24,7 +24,8 @@ pub fn current() -> Name
     name
 }
 
-fn ending_of(kind: FileKind) -> &'static [u8]
+/// What the name of such a file ends with.
+pub(crate) fn ending_of(kind: FileKind) -> &'static [u8]
     ensures { result.now ≡ ending kind }
 {
     match kind {

@@ -6,6 +6,7 @@ mod file_kind;
 mod files;
 pub mod laws;
 mod name;
+mod numbered_file;
 mod object_id;
 mod shared_object;
 
@@ -13,8 +14,6 @@ pub use external_object::{MAX_NAME_LEN, external, is_name};
 pub use file_kind::FileKind;
 pub use files::{current, file};
 pub use name::Name;
+pub use numbered_file::{NumberedFile, file_of};
 pub use object_id::ObjectId;
 pub use shared_object::{marker, marker_prefix, object};
-
-#[cfg(test)]
-mod tests;

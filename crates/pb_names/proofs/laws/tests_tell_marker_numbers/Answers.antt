@@ -1,0 +1,5 @@
+use Rattle.pb_names.proofs.RangeLemmas.{tests_tell_marker_numbers}
+use Rattle.pb_names.proofs.laws.tests_tell_marker_numbers.Goals as goal
+
+pub returns : goal.returns
+returns c = tests_tell_marker_numbers

@@ -1,8 +1,8 @@
 -- What the calls of a disk do to what a power cut may leave of a name.
-use Rattle.std.proofs.Common.{◌≡◌, ℕ, ◌⊎◌, inl, inr, List, [], length, Option, Some, None, IsSomeAnd, IfSome, refl, sym, subst, ap, ◌∙◌, arith}
+use Rattle.std.proofs.Common.{◌≡◌, ℕ, ◌⊎◌, inl, inr, List, [], length, Option, Some, None, IsSomeAnd, IfSome, sym, subst, ap, ◌∙◌, arith}
 use Rattle.std.proofs.lemmas.Grind.{same_number_lists}
-use Rattle.pb_devices.specs.Contents.{Contents, IsTorn, IsPart, MayLeave, IsSettled, KeepsOthers}
-use Rattle.pb_devices.specs.DiskCalls.{StaysAt, Stays, OthersStay, IsCreated, IsSynced, IsBarred, IsRemoved}
+use Rattle.pb_devices.specs.Contents.{Contents, IsTorn, IsPart, MayLeave, IsSettled}
+use Rattle.pb_devices.specs.DiskCalls.{StaysAt, IsCreated, IsSynced, AllSettled, IsRemoved}
 use Rattle.pb_devices.proofs.Options.{some_of, of_some}
 
 -- nothing is pending: a torn file is what reads give
@@ -21,8 +21,8 @@ part_settled durable pending (Some bytes) image same none part =
 pub settled_image : (disk : Contents) (name : List ℕ) (image : Option (List ℕ)) → IsSettled disk name → MayLeave disk name image → image ≡ disk.seen name
 settled_image disk name image settled left =
     elim left [
-      | inl earlier ↦ absurd (settled.last image earlier)
-      | inr part ↦ part_settled (disk.durable name) (disk.pending name) (disk.seen name) image settled.durable settled.whole part
+      | inl earlier ↦ absurd (settled.nothing_earlier image earlier)
+      | inr part ↦ part_settled (disk.durable name) (disk.pending name) (disk.seen name) image settled.durable settled.nothing_pending part
     ]
 
 torn_weaker : (durable seen image : List ℕ) (before now : ℕ → Type 0) → ((at : ℕ) → now at → before at) → IsTorn durable now seen image → IsTorn durable before seen image
@@ -54,45 +54,14 @@ stays_settled old new name stays settled = record {
   durable =
       subst (λ (s : Option (List ℕ)). IfSome s (λ bytes. new.durable name ≡ bytes)) (sym stays.seen)
       (subst (λ (d : List ℕ). IfSome (old.seen name) (λ bytes. d ≡ bytes)) (sym stays.durable) settled.durable);
-  whole = λ at is. settled.whole at (stays.pending at is);
-  last = λ image is. settled.last image (stays.earlier image is);
+  nothing_pending = λ at is. settled.nothing_pending at (stays.pending at is);
+  nothing_earlier = λ image is. settled.nothing_earlier image (stays.earlier image is);
 }
-
-pub others_kept : (old new : Contents) (name : List ℕ) → OthersStay old new name → KeepsOthers old new name
-others_kept old new name stay = record {
-  reads = λ other apart. (stay other apart).seen;
-  images = λ other image apart. stays_image old new other image (stay other apart);
-  settled = λ other apart. stays_settled old new other (stay other apart);
-}
-
-pub stays_kept : (old new : Contents) (name : List ℕ) → Stays old new → KeepsOthers old new name
-stays_kept old new name stays = others_kept old new name (λ other _. stays other)
 
 -- a barrier leaves no new image where what reads give was one
-pub barred_image : (old new : Contents) (name : List ℕ) (image : Option (List ℕ)) → MayLeave old name (old.seen name) → IsBarred old new → MayLeave new name image → MayLeave old name image
+pub barred_image : (old new : Contents) (name : List ℕ) (image : Option (List ℕ)) → MayLeave old name (old.seen name) → AllSettled old new → MayLeave new name image → MayLeave old name image
 barred_image old new name image seen barred left =
     subst (MayLeave old name) (sym (settled_image new name image (barred.settled name) left ∙ barred.seen name)) seen
-
-pub barred_kept : (old new : Contents) (name : List ℕ) → ((other : List ℕ) → MayLeave old other (old.seen other)) → IsBarred old new → KeepsOthers old new name
-barred_kept old new name seen barred = record {
-  reads = λ other _. barred.seen other;
-  images = λ other image _. barred_image old new other image (seen other) barred;
-  settled = λ other _ _. barred.settled other;
-}
-
-pub kept_same : (disk : Contents) (name : List ℕ) → KeepsOthers disk disk name
-kept_same disk name = record {
-  reads = λ other _. refl;
-  images = λ other image _ left. left;
-  settled = λ other _ settled. settled;
-}
-
-pub kept_then : (first mid last : Contents) (name : List ℕ) → KeepsOthers first mid name → KeepsOthers mid last name → KeepsOthers first last name
-kept_then first mid last name a b = record {
-  reads = λ other apart. b.reads other apart ∙ a.reads other apart;
-  images = λ other image apart left. a.images other image apart (b.images other image apart left);
-  settled = λ other apart settled. b.settled other apart (a.settled other apart settled);
-}
 
 part_none : (durable : List ℕ) (pending : ℕ → Type 0) (seen image : Option (List ℕ)) → seen ≡ None → IsPart durable pending seen image → image ≡ None
 part_none durable pending None image is part = part

@@ -1,2 +1,4 @@
 pub mod Options
+pub mod Over
 pub mod Images
+pub mod Kept

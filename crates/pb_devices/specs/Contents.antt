@@ -1,5 +1,5 @@
 -- What a folder holds, by name, and what a power cut now may leave of it.
-use Rattle.std.specs.Prelude.{◌≡◌, ℕ, ◌<◌, ◌≤◌, ◌⊎◌, List, length, Option, Some, None, IsSomeAnd, IfSome, slice_index}
+use Rattle.std.specs.Prelude.{◌≡◌, ℕ, ◌<◌, ◌≤◌, ◌⊎◌, if◌then◌else◌, Bool, List, length, Option, Some, None, IsSomeAnd, IfSome, slice_index}
 
 -- the files of a folder: the bytes of each name, none where there is no such file
 abbrev pub Folder : Type 0
@@ -38,11 +38,28 @@ IsImage disk folder = (name : List ℕ) → MayLeave disk name (folder name)
 -- what reads give of a name is durable, and a power cut leaves nothing else
 pub record IsSettled (disk : Contents) (name : List ℕ) : Type 0 where
   pub durable : IfSome (disk.seen name) (λ bytes. disk.durable name ≡ bytes)
-  pub whole : (at : ℕ) → disk.pending name at → ⊥
-  pub last : (image : Option (List ℕ)) → disk.earlier name image → ⊥
+  pub nothing_pending : (at : ℕ) → disk.pending name at → ⊥
+  pub nothing_earlier : (image : Option (List ℕ)) → disk.earlier name image → ⊥
 
--- of every other name, reads give the same, no image is new, and what was durable alone is
-pub record KeepsOthers (old new : Contents) (name : List ℕ) : Type 0 where
-  pub reads : (other : List ℕ) → (other ≡ name → ⊥) → new.seen other ≡ old.seen other
-  pub images : (other : List ℕ) (image : Option (List ℕ)) → (other ≡ name → ⊥) → MayLeave new other image → MayLeave old other image
-  pub settled : (other : List ℕ) → (other ≡ name → ⊥) → IsSettled old other → IsSettled new other
+-- reads give these bytes, and they are durable
+pub record HasFile (name bytes : List ℕ) (disk : Contents) : Type 0 where
+  pub seen : disk.seen name ≡ Some bytes
+  pub settled : IsSettled disk name
+
+-- of a name, reads give the same, no image is new, and what was durable alone is
+pub record KeptAt (old new : Contents) (name : List ℕ) : Type 0 where
+  pub reads : new.seen name ≡ old.seen name
+  pub images : (image : Option (List ℕ)) → MayLeave new name image → MayLeave old name image
+  pub settled : IsSettled old name → IsSettled new name
+
+-- each name that isn't touched is kept
+abbrev pub KeptBut : (List ℕ → Type 0) → Contents → Contents → Type 0
+KeptBut IsTouched old new = (name : List ℕ) → (IsTouched name → ⊥) → KeptAt old new name
+
+-- each other name is kept
+abbrev pub KeepsOthers : Contents → Contents → List ℕ → Type 0
+KeepsOthers old new name = KeptBut (λ other. other ≡ name) old new
+
+-- what reads give of the names that a test tells, and a folder's own files else
+abbrev pub with_seen : Contents → (List ℕ → Bool) → Folder → Folder
+with_seen disk is_changed folder name = if is_changed name then disk.seen name else folder name

@@ -58,7 +58,7 @@ pub record IsSynced (old new : Contents) (name : List ℕ) : Type 0 where
   pub others : OthersStay old new name
 
 -- reads give the same, and a power cut leaves that alone
-pub record IsBarred (old new : Contents) : Type 0 where
+pub record AllSettled (old new : Contents) : Type 0 where
   pub seen : (name : List ℕ) → new.seen name ≡ old.seen name
   pub settled : (name : List ℕ) → IsSettled new name
 

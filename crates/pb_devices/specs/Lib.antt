@@ -1,6 +1,8 @@
 pub mod Counts
+pub mod Faults
 pub mod Contents
 pub mod DiskCalls
+pub mod BeforeOrAfter
 pub mod Reads
 pub mod Objects
 pub mod Streams

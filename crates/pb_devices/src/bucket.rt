@@ -1,6 +1,7 @@
 ghost use Rattle.std.specs.Prelude.{◌≡◌, ℕ, ◌≤◌, ◌⊎◌, Bool, true, List, length, map, string_bytes, Some, None, IfOk, OnOk, OnErr};
 ghost use Rattle.std.specs.FinMap.{get, insert, remove};
-ghost use Rattle.pb_devices.specs.Counts.{HasCause, Rose, one_more};
+ghost use Rattle.pb_devices.specs.Counts.{HasCause, HasCauseAs, one_more};
+ghost use Rattle.pb_devices.specs.Faults.{IsListFault};
 ghost use Rattle.pb_devices.specs.Objects.{Objects, names_with, count_with};
 ghost use Rattle.pb_devices.specs.Reads.{read_into, IsLength, IsFound, Fits};
 
@@ -60,8 +61,7 @@ pub trait Bucket {
         ensures ok { told ≡ true → IfOk result (λ names. map string_bytes names.items ≡ names_with prefix.now (objects self.old)) }
         ensures kept { told ≡ true → objects self.new ≡ objects self.old }
         ensures calls { call_count self.new ≡ one_more (call_count self.old) }
-        ensures later { fault_count self.old ≤ fault_count self.new }
-        ensures failed { result ≡ Err ListError.Failed → Rose (fault_count self.old) (fault_count self.new) };
+        ensures cause { HasCauseAs IsListFault (fault_count self.old) (fault_count self.new) result };
 
     /// Deletes an object. `Ok` where the name isn't there, and then nothing changes. After `Failed` it has gone or not.
     fn delete(&mut self, name: &str) -> Result<(), Failed>

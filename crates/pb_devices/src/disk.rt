@@ -1,7 +1,8 @@
 ghost use Rattle.std.specs.Prelude.{◌≡◌, ℕ, ◌≤◌, ◌⊎◌, Bool, true, List, length, map, string_bytes, Some, None, IfOk, OnOk, OnErr, IsSome};
-ghost use Rattle.pb_devices.specs.Counts.{HasCause, Rose};
+ghost use Rattle.pb_devices.specs.Counts.{HasCause, HasCauseAs};
+ghost use Rattle.pb_devices.specs.Faults.{IsListFault};
 ghost use Rattle.pb_devices.specs.Contents.{Contents, IsImage, MayLeave};
-ghost use Rattle.pb_devices.specs.DiskCalls.{Stays, IsCreated, IsWritten, IsOver, IsScribbled, IsSynced, IsBarred, IsRemoved, IsCut};
+ghost use Rattle.pb_devices.specs.DiskCalls.{Stays, IsCreated, IsWritten, IsOver, IsScribbled, IsSynced, AllSettled, IsRemoved, IsCut};
 ghost use Rattle.pb_devices.specs.Reads.{read_into, read_len, IsLength, IsWithin, AreNames};
 
 use crate::fault::{Failed, ListError};
@@ -39,8 +40,7 @@ pub trait Disk {
     fn list(&mut self, alloc: Global) -> Result<Vec<String>, ListError>
         ensures ok { told ≡ true → IfOk result (λ names. AreNames (map string_bytes names.items) (contents self.old).seen) }
         ensures kept { told ≡ true → Stays (contents self.old) (contents self.new) }
-        ensures later { fault_count self.old ≤ fault_count self.new }
-        ensures failed { result ≡ Err ListError.Failed → Rose (fault_count self.old) (fault_count self.new) };
+        ensures cause { HasCauseAs IsListFault (fault_count self.old) (fault_count self.new) result };
 
     /// Makes an empty file. After `Failed` it has been made or not.
     fn create(&mut self, file: &str) -> Result<(), Failed>
@@ -69,7 +69,7 @@ pub trait Disk {
     /// Makes all files and the list of names durable as reads give them, also after a sync that failed.
     /// After `Failed` nothing has become possible that wasn't.
     fn barrier(&mut self) -> Result<(), Failed>
-        ensures ok { told ≡ true → OnOk result (IsBarred (contents self.old) (contents self.new)) }
+        ensures ok { told ≡ true → OnOk result (AllSettled (contents self.old) (contents self.new)) }
         ensures err { told ≡ true → OnErr result (Stays (contents self.old) (contents self.new)) }
         ensures cause { HasCause (fault_count self.old) (fault_count self.new) result };
 

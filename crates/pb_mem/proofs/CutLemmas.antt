@@ -2,7 +2,7 @@
 use Rattle.std.proofs.Common.{◌≡◌, ℕ, ◌⊎◌, inl, inr, Bool, true, false, List, [], ◌∷◌, Option, Some, None, IfSome, option_map, refl, sym, ap, subst, ◌∙◌, if◌then◌else◌}
 use Rattle.std.specs.FinMap.{get}
 use Rattle.pb_devices.specs.Contents.{IsTorn, IsSettled}
-use Rattle.pb_devices.specs.DiskCalls.{IsBarred, IsCut}
+use Rattle.pb_devices.specs.DiskCalls.{AllSettled, IsCut}
 use Rattle.pb_devices.proofs.Options.{some_of, of_some}
 use Rattle.pb_mem.specs.Files.{FileView, durable_bytes, IsPending, synced, IsPicked}
 use Rattle.pb_mem.specs.Slots.{SlotView, Slots, file_of, earlier_of, seen_of, durable_of, IsPendingOf, IsImageOf, IsImageOfAny, contents_in, happens, survivor, first_or, IsPickedOf, AreSettled, ArePicked}
@@ -18,15 +18,15 @@ settled_at slots name after file earlier =
     let settled = settled_file (file_of (get slots name)) after file in
     record {
       durable = settled.0;
-      whole = settled.1;
-      last = λ image is. subst (λ (files : List (Option FileView)). IsImageOfAny files image) earlier is;
+      nothing_pending = settled.1;
+      nothing_earlier = λ image is. subst (λ (files : List (Option FileView)). IsImageOfAny files image) earlier is;
     }
 
 seen_synced : (file : Option FileView) → seen_of (option_map synced file) ≡ seen_of file
 seen_synced None = refl
 seen_synced (Some file) = refl
 
-pub barred_slots : (old new : Slots) → AreSettled old new → IsBarred (contents_in old) (contents_in new)
+pub barred_slots : (old new : Slots) → AreSettled old new → AllSettled (contents_in old) (contents_in new)
 barred_slots old new settled = record {
   seen = λ name. ap seen_of (settled.file name) ∙ seen_synced (file_of (get old name));
   settled = λ name. settled_at new name (file_of (get old name)) (settled.file name) (settled.earlier name);

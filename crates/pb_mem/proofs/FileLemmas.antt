@@ -7,15 +7,13 @@ use Rattle.std.proofs.lemmas.List.{take_more, length-take, get_or-take, get_or-d
 use Rattle.std.proofs.lemmas.Grind.{same_number_lists, common_steps}
 use Rattle.pb_devices.specs.Contents.{IsTorn}
 use Rattle.pb_devices.specs.DiskCalls.{over}
+use Rattle.pb_devices.proofs.Over.{length-over}
 use Rattle.pb_mem.specs.Seen.{length-put_back, put_back-outside, side, length-durable, durable-kept, seen-torn}
 use Rattle.pb_mem.specs.Files.{Saved, FileView, put_back, before_writes, durable_bytes, Covers, IsPending, with_saved, replaced, touched, written, synced, pattern, pattern_len, IsPatterned, IsPicked, IsFilled, IsPatternedOver, pattern_byte}
 
 -- within, those that are put back stand
 put_back-inside : (s : Saved) (bs : List ℕ) (k : ℕ) → k < length bs → s.at ≤ k → k < s.at + length s.bytes → get_or (put_back s bs) k 0 ≡ get_or s.bytes (k - s.at) 0
 put_back-inside s bs k below from to = grind (arith, common_steps)
-
-pub length-over : (before : List ℕ) (at : ℕ) (bytes : List ℕ) → at ≤ length before → length (over before at bytes) ≡ max (length before) (at + length bytes)
-length-over before at bytes within = simp (length-append, length-take, length-drop) (omega arith)
 
 pub over-outside : (before : List ℕ) (at : ℕ) (bytes : List ℕ) (k : ℕ) → at ≤ length before → k < length before → (k < at) ⊎ (at + length bytes ≤ k) → get_or (over before at bytes) k 0 ≡ get_or before k 0
 over-outside before at bytes k within below (inl front) = grind (arith, common_steps)

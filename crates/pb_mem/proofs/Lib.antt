@@ -4,3 +4,4 @@ pub mod SlotLemmas
 pub mod CutLemmas
 pub mod FolderLemmas
 pub mod LeftLemmas
+pub mod ImageLemmas

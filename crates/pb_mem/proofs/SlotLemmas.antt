@@ -8,9 +8,10 @@ use Rattle.std.specs.Cmp.Lexicographic.{slice_cmp, nat_list_cmp_total}
 use Rattle.std.specs.FinMap.{get, nat_cmp-IsAntisymmetric, slice_cmp-IsAntisymmetric}
 use Rattle.pb_devices.specs.DiskCalls.{StaysAt, Stays, OthersStay, IsCreated, IsWritten, IsOver, IsScribble, IsScribbled, IsSynced, IsRemoved, over}
 use Rattle.pb_devices.specs.Reads.{IsWithin}
+use Rattle.pb_devices.proofs.Over.{length-over}
 use Rattle.pb_mem.specs.Files.{FileView, IsPending, synced, empty_file, touched, written, scribbled, pattern}
 use Rattle.pb_mem.specs.Slots.{SlotView, Slots, file_of, earlier_of, seen_of, durable_of, IsPendingOf, IsImageOf, IsImageOfAny, contents_in, ChangesAt, with_file, created, removed}
-use Rattle.pb_mem.proofs.FileLemmas.{length-over, over-outside, durable-synced, synced-whole, pending-touched, pending-written, length-pattern}
+use Rattle.pb_mem.proofs.FileLemmas.{over-outside, durable-synced, synced-whole, pending-touched, pending-written, length-pattern}
 
 -- what is held of a name depends on its slot alone
 pub stays_at : (old new : Slots) (name : List ℕ) → get new name ≡ get old name → StaysAt (contents_in old) (contents_in new) name
@@ -98,7 +99,7 @@ earlier_of-with_file change (Some slot) = refl
 pub file_changed : (change : FileView → FileView) (old new : Slots) (name : List ℕ) → ChangesAt old new name (with_file change (get old name)) → file_of (get new name) ≡ option_map change (file_of (get old name))
 file_changed change old new name changes = ap file_of (at_name old new name (with_file change (get old name)) changes) ∙ file_of-with_file change (get old name)
 
-earlier_kept : (change : FileView → FileView) (old new : Slots) (name : List ℕ) → ChangesAt old new name (with_file change (get old name)) → earlier_of (get new name) ≡ earlier_of (get old name)
+pub earlier_kept : (change : FileView → FileView) (old new : Slots) (name : List ℕ) → ChangesAt old new name (with_file change (get old name)) → earlier_of (get new name) ≡ earlier_of (get old name)
 earlier_kept change old new name changes = ap earlier_of (at_name old new name (with_file change (get old name)) changes) ∙ earlier_of-with_file change (get old name)
 
 -- a change of a file that leaves only a range pending

@@ -6,3 +6,5 @@ pub mod Files
 pub mod Slots
 pub mod Disk
 pub mod Seen
+pub mod Stopped
+pub mod Images

@@ -1,7 +1,8 @@
 ghost use Rattle.std.specs.Prelude.{◌≡◌, ℕ, ◌<◌, ◌≤◌, ◌⊎◌, true, map, length, string_bytes, Ok, Err, IfOk, IfErr, OnOk, OnErr};
 ghost use Rattle.std.specs.Option.{option_map};
 ghost use Rattle.std.specs.FinMap.{empty, get, insert, remove};
-ghost use Rattle.pb_devices.specs.Counts.{HasCause, Rose, one_more};
+ghost use Rattle.pb_devices.specs.Counts.{HasCause, HasCauseAs, one_more};
+ghost use Rattle.pb_devices.specs.Faults.{IsListFault};
 ghost use Rattle.pb_devices.specs.Objects.{names_with, count_with};
 ghost use Rattle.pb_devices.specs.Reads.{read_into, IsLength, IsFound, Fits};
 ghost use Rattle.pb_mem.specs.Calls.{no_calls, with_call, with_list, faults_of, FailsExactly, ListsExactly};
@@ -202,8 +203,7 @@ impl Bucket for MemBucket {
         ensures ok { IfOk result (λ names. map string_bytes names.items ≡ names_with prefix.now self.old.objects) }
         ensures kept { self.new.objects ≡ self.old.objects }
         ensures calls { self.new.calls.made ≡ one_more self.old.calls.made }
-        ensures later { faults_of self.old.calls ≤ faults_of self.new.calls }
-        ensures failed { result ≡ Err ListError.Failed → Rose (faults_of self.old.calls) (faults_of self.new.calls) }
+        ensures cause { HasCauseAs IsListFault (faults_of self.old.calls) (faults_of self.new.calls) result }
         ensures exactly { ListsExactly self.old.calls self.new.calls result }
         ensures same { self.new ≡ record self.old { calls = with_call self.old.calls } }
     {

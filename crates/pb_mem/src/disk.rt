@@ -1,8 +1,9 @@
 ghost use Rattle.std.specs.Prelude.{◌≡◌, ℕ, ◌<◌, ◌≤◌, ◌⊎◌, true, List, length, map, string_bytes, Some, None, Err, IfOk, OnOk, OnErr, IsErr};
 ghost use Rattle.std.specs.FinMap.{empty, get};
-ghost use Rattle.pb_devices.specs.Counts.{HasCause, Rose};
+ghost use Rattle.pb_devices.specs.Counts.{HasCause, HasCauseAs, Rose};
+ghost use Rattle.pb_devices.specs.Faults.{IsListFault};
 ghost use Rattle.pb_devices.specs.Contents.{Contents, IsImage, MayLeave};
-ghost use Rattle.pb_devices.specs.DiskCalls.{Stays, IsCreated, IsWritten, IsOver, IsScribbled, IsSynced, IsBarred, IsRemoved, IsCut};
+ghost use Rattle.pb_devices.specs.DiskCalls.{Stays, IsCreated, IsWritten, IsOver, IsScribbled, IsSynced, AllSettled, IsRemoved, IsCut};
 ghost use Rattle.pb_devices.specs.Reads.{read_into, read_len, IsLength, IsWithin, AreNames};
 ghost use Rattle.pb_mem.specs.Calls.{no_calls, with_call, with_list, faults_of, FailsExactly, ListsExactly};
 ghost use Rattle.pb_mem.specs.Files.{written, scribbled, synced};
@@ -122,8 +123,7 @@ impl Disk for MemDisk {
     fn list(&mut self, alloc: Global) -> Result<Vec<String>, ListError>
         ensures ok { IfOk result (λ names. AreNames (map string_bytes names.items) (held self.old).seen) }
         ensures kept { Stays (held self.old) (held self.new) }
-        ensures later { faults_of self.old.calls ≤ faults_of self.new.calls }
-        ensures failed { result ≡ Err ListError.Failed → Rose (faults_of self.old.calls) (faults_of self.new.calls) }
+        ensures cause { HasCauseAs IsListFault (faults_of self.old.calls) (faults_of self.new.calls) result }
         ensures exactly { ListsExactly self.old.calls self.new.calls result }
         ensures same { self.new ≡ record self.old { calls = with_call self.old.calls } }
     {
@@ -213,7 +213,7 @@ impl Disk for MemDisk {
     }
 
     fn barrier(&mut self) -> Result<(), Failed>
-        ensures ok { OnOk result (IsBarred (held self.old) (held self.new)) }
+        ensures ok { OnOk result (AllSettled (held self.old) (held self.new)) }
         ensures err { OnErr result (Stays (held self.old) (held self.new)) }
         ensures cause { HasCause (faults_of self.old.calls) (faults_of self.new.calls) result }
         ensures exactly { FailsExactly self.old.calls self.new.calls result }

@@ -8,11 +8,14 @@ mod disk;
 mod draws;
 mod file;
 mod folder;
+pub mod laws;
 mod names;
 mod pieces;
 mod slot;
+mod stopped;
 mod streams;
 
 pub use bucket::MemBucket;
 pub use disk::MemDisk;
+pub use stopped::StoppedDisk;
 pub use streams::{MemSink, MemSource};

@@ -50,3 +50,11 @@ one_span true b true d h k = refl
 pub both_groups : (a b c : Bool) → ((a && b) && c) ≡ (a && (b && c))
 both_groups true b c = refl
 both_groups false b c = refl
+
+pub record Neither (a b : Bool) : Type 0 where
+  pub first : a ≡ false
+  pub second : b ≡ false
+
+pub neither : (a b : Bool) → (a || b) ≡ false → Neither a b
+neither true b h = cc
+neither false b h = record { first = refl; second = h }

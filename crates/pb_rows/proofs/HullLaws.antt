@@ -1,16 +1,15 @@
 -- Hulls: of two lists, and of a list whose ends ascend.
-use Rattle.std.proofs.Common.{◌≡◌, ℕ, suc, ◌-◌, ◌<◌, List, [], ◌∷◌, ◌++◌, length, get_or, Bool, true, false, cond, refl, sym, ap, ◌∙◌, subst, arith, inl, inr}
+use Rattle.std.proofs.Common.{◌≡◌, ℕ, suc, ◌-◌, ◌<◌, List, [], ◌∷◌, ◌++◌, length, get_or, true, false, cond, refl, sym, ap, ◌∙◌, subst, arith, inl, inr}
 use Rattle.std.specs.Prelude.{Option, Some, None, map, All, ◌↔◌, ◌&&◌, ◌||◌}
 use Rattle.std.proofs.lemmas.Bool.{cases_lt}
 use Rattle.std.proofs.lemmas.List.{get_or_default}
-use Rattle.pb_keys.specs.Order.{is_below, end_above}
+use Rattle.pb_keys.specs.Order.{is_below, end_above, lesser, greater}
 use Rattle.pb_keys.specs.Key.{IsKey, prefix_of}
-use Rattle.pb_keys.specs.Span.{KeySpan, IsEnd, IsSpan, span_of}
+use Rattle.pb_keys.specs.Span.{KeySpan, IsSpan, span_of, joined}
 use Rattle.pb_keys.proofs.OrderFacts.{below_itself, below_one_way, below_upto, below_chain, same_bytes}
 use Rattle.pb_keys.proofs.KeyFacts.{prefixes_ascend, ends_above_ascend, prefixes_are_span}
 use Rattle.pb_rows.specs.Layer.{KeyRow, KeyLayer, layer_of, AreApart, Rise}
 use Rattle.pb_rows.specs.Hull.{either_hull, hull_of_spans, hull_of, span_at}
-use Rattle.pb_rows.specs.Over.{lesser, greater, joined}
 use Rattle.pb_rows.proofs.Bits.{both_groups, either_groups}
 use Rattle.pb_rows.proofs.LookLaws.{rows_rise, spans_follow}
 use Rattle.pb_rows.proofs.SpanLaws.{below-lesser, below-greater}
@@ -134,32 +133,6 @@ rows_are_span rows first last are rise some first_is last_is =
           ap (λ r. is_below (prefix_of r.key) (prefix_of first.key)) same ∙ below_itself (prefix_of first.key)
     ] in
     prefixes_are_span first.key last.key is_first is_last up
-
--- ---- both
-
-lesser_is_end : (a b : List ℕ) → IsEnd a → IsEnd b → IsEnd (lesser a b)
-lesser_is_end a b is_a is_b = elim (is_below b a) as (λ t. IsEnd (cond t b a)) [ true ↦ is_b | false ↦ is_a ]
-
-greater_is_end : (a b : List ℕ) → IsEnd a → IsEnd b → IsEnd (greater a b)
-greater_is_end a b is_a is_b = elim (is_below a b) as (λ t. IsEnd (cond t b a)) [ true ↦ is_b | false ↦ is_a ]
-
-either_true : (a b : Bool) → b ≡ true → (a || b) ≡ true
-either_true true b h = refl
-either_true false b h = h
-
-first_true : (a b : Bool) → a ≡ true → (a || b) ≡ true
-first_true true b h = refl
-first_true false b h = cc
-
-pub joined_is_span : (s t : KeySpan) → IsSpan s → IsSpan t → IsSpan (joined s t)
-joined_is_span s t is_s is_t = record {
-  lo = lesser_is_end s.lo t.lo is_s.lo is_t.lo;
-  hi = greater_is_end s.hi t.hi is_s.hi is_t.hi;
-  rises = below-greater (lesser s.lo t.lo) s.hi t.hi ∙ elim (is_below t.lo s.lo) as (λ b. (is_below (cond b t.lo s.lo) s.hi || is_below (cond b t.lo s.lo) t.hi) ≡ true) [
-    | true ↦ either_true (is_below t.lo s.hi) (is_below t.lo t.hi) is_t.rises
-    | false ↦ first_true (is_below s.lo s.hi) (is_below s.lo t.hi) is_s.rises
-  ];
-}
 
 -- ---- none at all
 

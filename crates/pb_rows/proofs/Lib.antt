@@ -7,3 +7,22 @@ pub mod CheckLaws
 pub mod HullLaws
 pub mod ChangingLaws
 pub mod ViewLaws
+pub mod MappedLaws
+pub mod HullHolds
+pub mod TouchLaws
+pub mod MappedVerdicts
+pub mod FilledLaws
+pub mod ViewedForm
+pub mod Tests
+pub mod NormalSpans
+pub mod Parts
+pub mod RowsOver
+pub mod LayeringLaws
+pub mod SameRows
+pub mod LayersOver
+pub mod CommandLaws
+pub mod LivePairs
+pub mod ApartLayers
+pub mod CommandForms
+pub mod OverExamples
+mod Examples

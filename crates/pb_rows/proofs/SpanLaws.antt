@@ -1,11 +1,11 @@
 -- What lists of spans hold.
 use Rattle.std.proofs.Common.{◌≡◌, ℕ, List, [], ◌∷◌, true, false, cond, refl, sym, ap, ◌∙◌}
 use Rattle.std.specs.Prelude.{not, ◌&&◌, ◌||◌}
-use Rattle.pb_keys.specs.Order.{is_below}
+use Rattle.pb_keys.specs.Order.{is_below, lesser, greater}
 use Rattle.pb_keys.specs.Key.{prefix_of}
-use Rattle.pb_keys.specs.Span.{KeySpan, holds_key}
+use Rattle.pb_keys.specs.Span.{KeySpan, holds_key, joined}
 use Rattle.pb_keys.proofs.OrderFacts.{below_chain, below_upto}
-use Rattle.pb_rows.specs.Over.{lesser, greater, joined, with_span, union_of}
+use Rattle.pb_rows.specs.Over.{with_span, union_of}
 use Rattle.pb_rows.specs.Verdict.{is_covered}
 use Rattle.pb_rows.proofs.Bits.{either_swaps, either_groups, both_below, both_below_first, one_below, one_below_first, one_span}
 

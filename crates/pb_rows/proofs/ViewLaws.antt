@@ -1,17 +1,16 @@
 -- A layer seen through bounds alone.
 use Rattle.std.proofs.Common.{◌≡◌, ℕ, List, [], ◌∷◌, ◌++◌, Bool, true, false, cond, refl, sym, ap, ◌∙◌}
-use Rattle.std.specs.Prelude.{Some, None, map, filter, not, ◌&&◌, ◌||◌}
+use Rattle.std.specs.Prelude.{Some, None, map, not, ◌&&◌, ◌||◌}
 use Rattle.std.specs.List.{flat_map}
 use Rattle.std.specs.Option.{option_or}
-use Rattle.pb_keys.specs.Order.{is_below}
+use Rattle.pb_keys.specs.Order.{is_below, lesser, greater}
 use Rattle.pb_keys.specs.Key.{prefix_of}
 use Rattle.pb_keys.specs.Span.{KeySpan, holds_key, overlap, span_of}
 use Rattle.pb_keys.proofs.OrderFacts.{upto_below}
 use Rattle.pb_keys.proofs.SpanFacts.{holds_key-ends, overlap-ends}
-use Rattle.pb_rows.specs.Layer.{KeyRow, KeyLayer}
-use Rattle.pb_rows.specs.Over.{lesser, greater}
+use Rattle.pb_rows.specs.Layer.{KeyRow, KeyLayer, layer_of}
 use Rattle.pb_rows.specs.Verdict.{Verdict, row_verdict, is_covered, verdict}
-use Rattle.pb_rows.specs.Viewed.{viewed, plain_view, mapped_row, part_within}
+use Rattle.pb_rows.specs.Viewed.{viewed, plain_view, mapped, bounded, mapped_row, mapped_span, part_within}
 use Rattle.pb_rows.proofs.RowLaws.{row_verdict-filter}
 use Rattle.pb_rows.proofs.SpanLaws.{below-lesser, below-greater}
 
@@ -80,15 +79,29 @@ same_rows : (bounds : KeySpan) (rows : List KeyRow) → map (mapped_row (plain_v
 same_rows bounds [] = refl
 same_rows bounds (row ∷ rows) = ap (λ r. row ∷ r) (same_rows bounds rows)
 
-bounded : (h c : Bool) (found : Verdict) → option_or (cond h found None) (cond (h && c) (Some None) None) ≡ cond h (option_or found (cond c (Some None) None)) None
-bounded true c found = refl
-bounded false c found = refl
+same_spans : (bounds : KeySpan) (spans : List KeySpan) → map (mapped_span (plain_view bounds)) spans ≡ spans
+same_spans bounds [] = refl
+same_spans bounds (span ∷ spans) = ap (λ ss. span ∷ ss) (same_spans bounds spans)
 
--- through bounds alone a layer says what it says of the keys within, and nothing of the others
-pub verdict-plain_view : (bounds : KeySpan) (layer : KeyLayer) (key : List ℕ) → verdict (viewed (plain_view bounds) layer) key ≡ cond (holds_key bounds key) (verdict layer key) None
-unfolding verdict viewed
-verdict-plain_view bounds layer key =
+-- a view of bounds alone maps a layer to itself
+pub mapped-plain_view : (bounds : KeySpan) (layer : KeyLayer) → mapped (plain_view bounds) layer ≡ layer
+mapped-plain_view bounds layer = λ i. layer_of (same_spans bounds layer.dels i) (same_rows bounds layer.rows i)
+
+within : (h c : Bool) (found : Verdict) → option_or (cond h found None) (cond (h && c) (Some None) None) ≡ cond h (option_or found (cond c (Some None) None)) None
+within true c found = refl
+within false c found = refl
+
+-- within bounds a layer says what it says of the keys there, and nothing of the others
+pub verdict-bounded : (bounds : KeySpan) (layer : KeyLayer) (key : List ℕ) → verdict (bounded bounds layer) key ≡ cond (holds_key bounds key) (verdict layer key) None
+unfolding verdict
+verdict-bounded bounds layer key =
     (λ i. option_or
-    ((ap (λ rows. row_verdict (filter (λ row. holds_key bounds row.key) rows) key) (same_rows bounds layer.rows) ∙ row_verdict-filter (holds_key bounds) layer.rows key) i)
+    (row_verdict-filter (holds_key bounds) layer.rows key i)
     (cond (is_covered-cut bounds layer.dels key i) (Some None) None))
-    ∙ bounded (holds_key bounds key) (is_covered layer.dels key) (row_verdict layer.rows key)
+    ∙ within (holds_key bounds key) (is_covered layer.dels key) (row_verdict layer.rows key)
+
+-- through bounds alone it says the same
+pub verdict-plain_view : (bounds : KeySpan) (layer : KeyLayer) (key : List ℕ) → verdict (viewed (plain_view bounds) layer) key ≡ cond (holds_key bounds key) (verdict layer key) None
+unfolding viewed
+verdict-plain_view bounds layer key =
+    ap (λ l. verdict (bounded bounds l) key) (mapped-plain_view bounds layer) ∙ verdict-bounded bounds layer key

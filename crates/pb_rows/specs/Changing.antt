@@ -34,3 +34,8 @@ after m (Ingest layers) = applied_in_turn layers m
 after m (IngestExcise span layers) = applied_in_turn layers (without m span)
 after m (External view layer) = applied (viewed view layer) m
 after m (Receive span sub) = with_pairs (without m span) (entries sub)
+
+-- the map after the commands, the first at first
+abbrev pub changed : Map → List Changing → Map
+changed m [] = m
+changed m (change ∷ changes) = changed (after m change) changes

@@ -1,10 +1,11 @@
 -- Layers: deletions of spans, and rows.
-use Rattle.std.specs.Prelude.{◌≡◌, ℕ, ◌-◌, ◌<◌, ◌≤◌, List, length, Option, All, IfSome, slice_index_or, true}
+use Rattle.std.specs.Prelude.{◌≡◌, ℕ, ◌+◌, ◌-◌, ◌<◌, ◌≤◌, List, length, Option, All, IfSome, slice_index_or, true}
 use Rattle.std.specs.List.{AllAdjacentBelow}
 use Rattle.std.specs.declared.cmp.Ordering.TheVariants.{Less}
 use Rattle.pb_keys.specs.Order.{is_below}
 use Rattle.pb_keys.specs.Key.{IsKey, key_cmp}
 use Rattle.pb_keys.specs.Span.{KeySpan, IsSpan}
+use Rattle.pb_keys.specs.Value.{IsValue}
 
 -- a key with its value, or with None where it is deleted
 pub record KeyRow : Type 0 where
@@ -47,13 +48,17 @@ pub record IsFirstFall (rows : List KeyRow) (at : ℕ) : Type 0 where
   pub before : RiseUpTo rows at
   pub falls : (d : KeyRow) → ¬ (IsBelow (slice_index_or rows (at - 1) d) (slice_index_or rows at d))
 
--- a value has at most 65,536 bytes
-abbrev pub IsShort : KeyRow → Type 0
-IsShort row = IfSome row.value (λ value. length value ≤ 65536)
+-- its value, if it has one, is not too long
+abbrev pub IsShortRow : KeyRow → Type 0
+IsShortRow row = IfSome row.value IsValue
 
 pub record IsLayer (layer : KeyLayer) : Type 0 where
   pub spans : All IsSpan layer.dels
   pub apart : AreApart layer.dels
   pub keys : All (λ row. IsKey row.key) layer.rows
   pub rise : Rise layer.rows
-  pub short : All IsShort layer.rows
+  pub short : All IsShortRow layer.rows
+
+-- it deletes a span, or it has a row
+abbrev pub IsFilled : KeyLayer → Type 0
+IsFilled layer = 1 ≤ length layer.dels + length layer.rows

@@ -5,4 +5,6 @@ pub mod Over
 pub mod Found
 pub mod Hull
 pub mod Viewed
+pub mod Touching
 pub mod Changing
+pub mod ChangingLayers

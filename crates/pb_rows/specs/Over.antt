@@ -1,21 +1,11 @@
 -- A newer layer over an older one.
-use Rattle.std.specs.Prelude.{ℕ, List, [], ◌∷◌, not, if◌then◌else◌, filter}
+use Rattle.std.specs.Prelude.{List, [], ◌∷◌, not, if◌then◌else◌, filter}
 use Rattle.std.specs.FinMap.Entries.{by_order}
 use Rattle.pb_keys.specs.Order.{is_below}
 use Rattle.pb_keys.specs.Key.{key_cmp}
-use Rattle.pb_keys.specs.Span.{KeySpan, span_of}
+use Rattle.pb_keys.specs.Span.{KeySpan, joined}
 use Rattle.pb_rows.specs.Layer.{KeyRow, KeyLayer, layer_of}
 use Rattle.pb_rows.specs.Verdict.{is_covered}
-
-abbrev pub lesser : List ℕ → List ℕ → List ℕ
-lesser a b = if is_below b a then b else a
-
-abbrev pub greater : List ℕ → List ℕ → List ℕ
-greater a b = if is_below a b then b else a
-
--- from the lesser start to the greater end
-abbrev pub joined : KeySpan → KeySpan → KeySpan
-joined s t = span_of (lesser s.lo t.lo) (greater s.hi t.hi)
 
 -- a span beside others: those that it overlaps or touches become one with it
 abbrev pub with_span : KeySpan → List KeySpan → List KeySpan
@@ -39,3 +29,8 @@ rows_over (row ∷ newer) older = with_row row (rows_over newer older)
 -- all spans of both; the newer rows, and the older rows whose keys are neither in a newer span nor among the newer rows
 unfoldable pub over : KeyLayer → KeyLayer → KeyLayer
 over newer older = layer_of (union_of newer.dels older.dels) (rows_over newer.rows (filter (λ row. not (is_covered newer.dels row.key)) older.rows))
+
+-- layers put over one another, the first the newest
+abbrev pub over_all : List KeyLayer → KeyLayer
+over_all [] = layer_of [] []
+over_all (layer ∷ older) = over layer (over_all older)

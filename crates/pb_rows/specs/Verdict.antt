@@ -3,7 +3,8 @@ use Rattle.std.specs.Prelude.{ℕ, List, [], ◌∷◌, Bool, if◌then◌else�
 use Rattle.std.specs.List.{list_any}
 use Rattle.std.specs.Option.{option_or}
 use Rattle.std.specs.Ordering.{eq_by_cmp}
-use Rattle.pb_keys.specs.Key.{key_cmp}
+use Rattle.pb_keys.specs.Key.{key_cmp, prefix_of}
+use Rattle.pb_keys.specs.Order.{bytes_cmp}
 use Rattle.pb_keys.specs.Span.{KeySpan, holds_key}
 use Rattle.pb_rows.specs.Layer.{KeyRow, KeyLayer}
 
@@ -15,6 +16,11 @@ Verdict = Option (Option (List ℕ))
 abbrev pub row_verdict : List KeyRow → List ℕ → Verdict
 row_verdict [] key = None
 row_verdict (row ∷ rows) key = if eq_by_cmp key_cmp key row.key then Some row.value else row_verdict rows key
+
+-- what the first row whose key has this prefix says
+abbrev pub prefix_verdict : List KeyRow → List ℕ → Verdict
+prefix_verdict [] prefix = None
+prefix_verdict (row ∷ rows) prefix = if eq_by_cmp bytes_cmp prefix (prefix_of row.key) then Some row.value else prefix_verdict rows prefix
 
 -- whether one of the spans holds the key
 abbrev pub is_covered : List KeySpan → List ℕ → Bool

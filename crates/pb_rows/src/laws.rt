@@ -17,6 +17,20 @@ ghost use Rattle.pb_rows.specs.Over.{over};
 ghost use Rattle.pb_rows.specs.Verdict.{verdict, verdicts};
 ghost use Rattle.pb_rows.specs.Viewed.{viewed, plain_view};
 
+mod layering;
+mod views;
+
+pub use layering::{
+    a_layers_pairs, apart_in_any_order, changes_are_layers, last_change_is_newest,
+    layer_does_the_command, over_all_says_the_newest, over_groups, over_keeps_layers,
+    rows_are_their_verdicts, same_effect,
+};
+pub use views::{
+    a_cut_layer_has_its_hull_within, a_hull_holds_its_layer, a_plain_view_keeps_limits, filled,
+    mapped_by_key, mapped_keys_have_these_parts, silent_where_untouched, untouched_commutes,
+    viewed_by_key, views_keep_layers,
+};
+
 /// A map to which a layer was applied has at each key what the layer says, or else what it had.
 pub fn applied_by_key()
     ensures one { (layer : KeyLayer) (m : Map) (key : List ℕ) → get (applied layer m) key ≡ unwrap_or (verdict layer key) (get m key) }

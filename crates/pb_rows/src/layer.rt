@@ -1,5 +1,5 @@
 ghost use Rattle.std.specs.Prelude.{◌≡◌, ◌↔◌, IfOk, OnOk, IsOk, All, ℕ};
-ghost use Rattle.pb_rows.specs.Layer.{IsLayer, IsShort, AreApart, Rise, IsFirstFall, layer_of};
+ghost use Rattle.pb_rows.specs.Layer.{IsLayer, AreApart, Rise, IsFirstFall, layer_of, IsShortRow};
 ghost use Rattle.pb_rows.specs.Found.{as_verdict};
 ghost use Rattle.pb_rows.specs.Hull.{hull_of};
 ghost use Rattle.pb_rows.specs.Verdict.{verdict};
@@ -9,7 +9,7 @@ use super::copies::{copy_of_rows, copy_of_spans};
 use super::hull::{either_of, hull_of_dels, hull_of_rows};
 use super::look::{found_among, found_in, row_of};
 use super::{Found, Row};
-use pb_keys::{Key, Span};
+use pb_keys::{Key, List, Span};
 use std::alloc::{AllocError, Global};
 use std::marker::Model;
 
@@ -22,6 +22,9 @@ pub struct Layer {
     dels: Vec<Span>,
     rows: Vec<Row>,
 }
+
+/// Some layers in order.
+pub type Layers = List<Layer>;
 
 /// Why there is no layer.
 #[derive(Clone, Copy, Debug, PartialEq, Eq, thiserror::Error)]
@@ -47,7 +50,7 @@ impl Model for Layer {
 impl Layer {
     /// The layer of these spans and rows. It takes no memory.
     pub fn new(_alloc: Global, dels: Vec<Span>, rows: Vec<Row>) -> Result<Layer, RowsError>
-        requires { All IsShort rows.items }
+        requires { All IsShortRow rows.items }
         ensures ok { IfOk result (λ layer. layer ≡ layer_of dels.items rows.items) }
         ensures in_form { OnOk result (IsLayer (layer_of dels.items rows.items)) }
         ensures bad_dels { (result ≡ Err RowsError.BadDels) ↔ ¬ (AreApart dels.items) }
@@ -77,6 +80,16 @@ impl Layer {
         ensures in_form { IsLayer self.now }
     {
         self.rows.as_slice()
+    }
+
+    /// Its spans and its rows. It takes no memory.
+    pub fn into_parts(self) -> (Vec<Span>, Vec<Row>)
+        ensures dels { result.0.items ≡ self.dels }
+        ensures rows { result.1.items ≡ self.rows }
+        ensures in_form { IsLayer self }
+    {
+        let Layer { dels, rows } = self;
+        (dels, rows)
     }
 
     /// What the layer has of this key, by halving over the rows and over the spans.
@@ -109,6 +122,3 @@ impl Layer {
         Ok(Layer { dels, rows })
     }
 }
-
-#[cfg(test)]
-mod tests;

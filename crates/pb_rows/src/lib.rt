@@ -9,6 +9,6 @@ mod layer;
 mod look;
 mod row;
 
-pub use layer::{Layer, RowsError};
-pub use look::Found;
-pub use row::{MAX_VALUE, Row};
+pub use layer::{Layer, Layers, RowsError};
+pub use look::{Found, covers};
+pub use row::Row;

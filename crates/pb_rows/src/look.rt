@@ -34,9 +34,9 @@ pub(crate) fn row_of<'a>(rows: &'a [Row], key: &Key) -> Option<&'a Row>
     None
 }
 
-/// Whether one of the spans holds the key.
-fn is_covered_by(dels: &[Span], key: &Key) -> bool
-    requires spans { All IsSpan dels.now }
+/// Whether one of the spans, which ascend and neither overlap nor touch, holds the key; by halving.
+pub fn covers(dels: &[Span], key: &Key) -> bool
+    requires in_form { All IsSpan dels.now }
     requires apart { AreApart dels.now }
     ensures { result ≡ is_covered dels.now key.now }
 {
@@ -61,7 +61,7 @@ pub(crate) fn found_among<'a>(dels: &[Span], key: &Key) -> Found<'a>
     requires apart { AreApart dels.now }
     ensures { as_verdict result ≡ (if is_covered dels.now key.now then Some None else None) }
 {
-    if is_covered_by(dels, key) {
+    if covers(dels, key) {
         Found::Deleted
     } else {
         Found::Absent

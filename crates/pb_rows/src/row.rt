@@ -1,12 +1,12 @@
-ghost use Rattle.std.specs.Prelude.{◌≡◌, ◌↔◌, IsTrue, IfOk};
-ghost use Rattle.pb_rows.specs.Layer.{IsShort};
+ghost use Rattle.std.specs.Prelude.{◌≡◌, ◌↔◌, IsTrue, IfOk, OnOk};
+ghost use Rattle.std.specs.Option.{option_map};
+ghost use Rattle.pb_keys.specs.Key.{IsKey};
+ghost use Rattle.pb_rows.specs.ChangingLayers.{row_of};
+ghost use Rattle.pb_rows.specs.Layer.{IsShortRow};
 
-use pb_keys::{Bytes, Key};
+use pb_keys::{Bytes, Key, KeyError, MAX_VALUE};
 use std::alloc::{AllocError, Global};
 use std::marker::Model;
-
-/// The longest value of a row, in bytes.
-pub const MAX_VALUE: usize = 65_536;
 
 /// A key with its value, or with None where the key is deleted.
 #[derive(Debug, Drop)]
@@ -24,9 +24,20 @@ impl Model for Row {
 }
 
 impl Row {
+    /// The row of this key with this value, or with None where the key is deleted.
+    pub fn of(alloc: Global, key: &[u8], value: Option<&[u8]>) -> Result<Row, KeyError>
+        ensures ok { IfOk result (λ row. row ≡ row_of key.now (option_map (λ bytes. bytes.now) value.entry)) }
+        ensures in_form { OnOk result (IsKey key.now) }
+        ensures bad { (result ≡ Err KeyError.BadKey) ↔ ¬ (IsKey key.now) }
+    {
+        let key = Key::new(alloc, key)?;
+        let value = value_of(alloc, value)?;
+        Ok(Row { key, value })
+    }
+
     /// Whether the value, if there is one, has at most 65,536 bytes.
     pub fn is_short(&self) -> bool
-        ensures { IsTrue result ↔ IsShort self.now }
+        ensures { IsTrue result ↔ IsShortRow self.now }
     {
         match &self.value {
             None => true,
@@ -41,6 +52,18 @@ impl Row {
         let key = self.key.copy(alloc)?;
         let value = copy_of(alloc, &self.value)?;
         Ok(Row { key, value })
+    }
+}
+
+fn value_of(alloc: Global, value: Option<&[u8]>) -> Result<Option<Bytes>, AllocError>
+    ensures ok { IfOk result (λ copy. copy ≡ option_map (λ bytes. bytes.now) value.entry) }
+{
+    match value {
+        None => Ok(None),
+        Some(bytes) => {
+            let bytes = Bytes::new(alloc, bytes)?;
+            Ok(Some(bytes))
+        }
     }
 }
 

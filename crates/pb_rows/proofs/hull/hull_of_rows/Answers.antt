@@ -5,8 +5,8 @@ use Rattle.pb_keys.specs.Span.{IsSpan, span_of}
 use Rattle.pb_rows.proofs.HullLaws.{hull_of_rows_is, rows_are_span}
 use Rattle.pb_rows.proofs.hull.hull_of_rows.Goals as goal
 
-pub span_between-requires : goal.span_between-requires
-span_between-requires c =
+pub between-requires : goal.between-requires
+between-requires c =
     let some : 0 < length c.args.rows.now = grind arith in
     let start : c.prefix-2.result.now ≡ prefix_of c.index-rows-0.result.key = c.prefix-2.ensures.value ∙ ap (λ r. prefix_of r.key) c.first.view_is in
     let end : c.as_slice.result.now ≡ end_above (prefix_of c.index-rows-rows.result.key) =

@@ -1,6 +1,0 @@
-use Rattle.std.specs.Prelude.{All}
-use Rattle.pb_rows.specs.Layer.{IsShort}
-use Rattle.pb_rows.proofs.layer.tests.rows_of.Given as goal
-
-abbrev pub invariant-loop-key : goal.invariant-loop-key
-invariant-loop-key l = All IsShort l.rows.items

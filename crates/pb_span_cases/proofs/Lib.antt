@@ -1,3 +1,4 @@
 pub mod SignFacts
 pub mod Remainders
 pub mod TableFacts
+pub mod RemainLaws

@@ -1,5 +1,6 @@
 -- The table, computed once over its lines, and what that says of each line.
-use Rattle.std.proofs.Common.{◌≡◌, ℕ, zero, suc, ◌<◌, List, [], ◌∷◌, length, Bool, true, false, refl, sym, ap, ◌∙◌, ◌&&◌, arith}
+use Rattle.std.proofs.Common.{◌≡◌, ℕ, zero, suc, ◌<◌, List, [], ◌∷◌, length, Bool, true, false, refl, sym, ap, ◌∙◌, ◌&&◌, arith, subst}
+use Rattle.std.proofs.lemmas.List.{get_or_default}
 use Rattle.std.specs.List.{list_all, slice_index_or}
 use Rattle.std.proofs.lemmas.Bool.{and_parts}
 use Rattle.std.specs.Cmp.Lexicographic.{nat_list_cmp_total}
@@ -9,7 +10,7 @@ use Rattle.std.specs.declared.cmp.Ordering.TheVariants.{Less, Equal, Greater}
 use Rattle.pb_keys.specs.Order.{bytes_cmp, is_below}
 use Rattle.pb_keys.specs.Span.{KeySpan, IsSpan}
 use Rattle.pb_span_cases.specs.Relation.{IsCase}
-use Rattle.pb_span_cases.specs.Remainder.{IsLine, ends_of, number_of}
+use Rattle.pb_span_cases.specs.Remainder.{IsLine, ends_of, case_place}
 use Rattle.pb_span_cases.specs.Signs.{Signs, signs_of}
 use Rattle.pb_span_cases.specs.declared.relations.Rel.{Rel}
 use Rattle.pb_span_cases.specs.declared.relations.Rel.TheVariants as rels
@@ -18,7 +19,7 @@ use Rattle.pb_span_cases.specs.declared.table.Part.{Part}
 use Rattle.pb_span_cases.specs.declared.table.Part.TheVariants.{Nothing, Whole, LoToCut, CutToHi}
 use Rattle.pb_span_cases.specs.declared.table.TheConstants.{CASES}
 use Rattle.pb_span_cases.proofs.Remainders.{left_by, right_by, left_part, right_part}
-use Rattle.pb_span_cases.proofs.SignFacts.{signs, signs-case}
+use Rattle.pb_span_cases.proofs.SignFacts.{signs, signs-case, exactly_one_case}
 
 abbrev same_part : Part → Part → Bool
 same_part Nothing Nothing = true
@@ -107,7 +108,7 @@ names_parts line rel table cut table_is cut_is listed named holds =
     }
 
 -- the line in the place of a relation is its own
-pub named_line : (r : Rel) (other : Case) → (slice_index_or CASES.lines (number_of r) other).rel ≡ r
+pub named_line : (r : Rel) (other : Case) → (slice_index_or CASES.lines (case_place r) other).rel ≡ r
 named_line rels.Before other = refl
 named_line rels.Meets other = refl
 named_line rels.After other = refl
@@ -122,22 +123,22 @@ named_line rels.Overlaps other = refl
 named_line rels.OverlappedBy other = refl
 named_line rels.Contains other = refl
 
-pub number_of-below : (r : Rel) → number_of r < 13
-number_of-below rels.Before = omega arith
-number_of-below rels.Meets = omega arith
-number_of-below rels.After = omega arith
-number_of-below rels.MetBy = omega arith
-number_of-below rels.Equal = omega arith
-number_of-below rels.Starts = omega arith
-number_of-below rels.During = omega arith
-number_of-below rels.Finishes = omega arith
-number_of-below rels.StartedBy = omega arith
-number_of-below rels.FinishedBy = omega arith
-number_of-below rels.Overlaps = omega arith
-number_of-below rels.OverlappedBy = omega arith
-number_of-below rels.Contains = omega arith
+pub case_place-below : (r : Rel) → case_place r < 13
+case_place-below rels.Before = omega arith
+case_place-below rels.Meets = omega arith
+case_place-below rels.After = omega arith
+case_place-below rels.MetBy = omega arith
+case_place-below rels.Equal = omega arith
+case_place-below rels.Starts = omega arith
+case_place-below rels.During = omega arith
+case_place-below rels.Finishes = omega arith
+case_place-below rels.StartedBy = omega arith
+case_place-below rels.FinishedBy = omega arith
+case_place-below rels.Overlaps = omega arith
+case_place-below rels.OverlappedBy = omega arith
+case_place-below rels.Contains = omega arith
 
-pub listed_line : (r : Rel) (other : Case) → IsLine (slice_index_or CASES.lines (number_of r) other)
+pub listed_line : (r : Rel) (other : Case) → IsLine (slice_index_or CASES.lines (case_place r) other)
 unfolding IsLine
 listed_line rels.Before other = (0, omega arith, refl)
 listed_line rels.Meets other = (1, omega arith, refl)
@@ -152,3 +153,44 @@ listed_line rels.FinishedBy other = (9, omega arith, refl)
 listed_line rels.Overlaps other = (10, omega arith, refl)
 listed_line rels.OverlappedBy other = (11, omega arith, refl)
 listed_line rels.Contains other = (12, omega arith, refl)
+
+-- ---- one line, and no other
+
+abbrev IsAtPlace : Case → Type 0
+IsAtPlace line = line ≡ slice_index_or CASES.lines (case_place line.rel) line
+
+abbrev EachAtPlace : List Case → Type 0
+EachAtPlace [] = Unit {0}
+EachAtPlace (line ∷ lines) = IsAtPlace line × EachAtPlace lines
+
+-- the lines stand in the order of their relations
+all_at_place : EachAtPlace CASES.lines
+all_at_place = (refl, (refl, (refl, (refl, (refl, (refl, (refl, (refl, (refl, (refl, (refl, (refl, (refl, tt)))))))))))))
+
+one_of_each : (lines : List Case) (k : ℕ) (line : Case) → k < length lines → EachAtPlace lines → IsAtPlace (slice_index_or lines k line)
+one_of_each [] k line within all = absurd (omega arith)
+one_of_each (first ∷ lines) zero line within all = all.0
+one_of_each (first ∷ lines) (suc k) line within all = one_of_each lines k line (omega arith) all.1
+
+is_at_place : (line : Case) → IsLine line → IsAtPlace line
+unfolding IsLine
+is_at_place line (k, within, is_line) = subst IsAtPlace is_line (one_of_each CASES.lines k line within all_at_place)
+
+-- lines of one relation are one
+same_line : (a b : Case) → IsLine a → IsLine b → a.rel ≡ b.rel → a ≡ b
+same_line a b a_is b_is same =
+    is_at_place a a_is ∙ ap (λ rel. slice_index_or CASES.lines (case_place rel) a) same
+    ∙ get_or_default CASES.lines (case_place b.rel) a b (case_place-below b.rel) ∙ sym (is_at_place b b_is)
+
+-- every two spans meet exactly one line
+pub exactly_one_line : (a b : KeySpan) → IsSpan a → IsSpan b → (line : Case) × IsLine line × IsCase line.rel a b × ((other : Case) → IsLine other → IsCase other.rel a b → other ≡ line)
+exactly_one_line a b a_is b_is =
+    let found = exactly_one_case a b a_is b_is in
+    let none : Case = record { rel = found.0; left = Nothing; right = Nothing } in
+    let line = slice_index_or CASES.lines (case_place found.0) none in
+    let named : line.rel ≡ found.0 = named_line found.0 none in (
+      line,
+      listed_line found.0 none,
+      subst (λ rel. IsCase rel a b) (sym named) found.1,
+      λ other listed holds. same_line other line listed (listed_line found.0 none) (found.2 other.rel holds ∙ sym named),
+    )

@@ -1,5 +1,6 @@
 -- What a cut leaves of a table.
-use Rattle.std.specs.Prelude.{◌≡◌, ℕ, List, Bool, false, Option, Some, None, ◌&&◌, ◌||◌, not, Contains}
+use Rattle.std.specs.Prelude.{◌≡◌, ℕ, List, [], ◌∷◌, ◌++◌, Bool, false, Option, Some, None, ◌&&◌, ◌||◌, not, Contains, if◌then◌else◌}
+use Rattle.pb_keys.specs.Order.{is_below, lesser, greater}
 use Rattle.pb_keys.specs.Span.{KeySpan, span_of, holds_key}
 use Rattle.pb_span_cases.specs.declared.relations.Rel.{Rel}
 use Rattle.pb_span_cases.specs.declared.relations.Rel.TheVariants as rels
@@ -29,18 +30,28 @@ abbrev pub Remains : KeySpan → KeySpan → Option KeySpan → Option KeySpan �
 Remains table cut left right =
     (key : List ℕ) → (part_holds left key || part_holds right key) ≡ (holds_key table key && not (holds_key cut key))
 
+-- what the cut leaves: the part of the table in front of the cut, and the part behind it
+abbrev pub remains : KeySpan → KeySpan → List KeySpan
+remains table cut =
+    (if is_below table.lo cut.lo then span_of table.lo (lesser table.hi cut.lo) ∷ [] else [])
+    ++ (if is_below cut.hi table.hi then span_of (greater cut.hi table.lo) table.hi ∷ [] else [])
+
+-- a line, by the relation and the parts in front of the cut and behind it
+abbrev pub case_of : Rel → Part → Part → Case
+case_of rel left right = record { rel = rel; left = left; right = right }
+
 -- the place of a relation's line in the table
-abbrev pub number_of : Rel → ℕ
-number_of rels.Before = 0
-number_of rels.Meets = 1
-number_of rels.After = 2
-number_of rels.MetBy = 3
-number_of rels.Equal = 4
-number_of rels.Starts = 5
-number_of rels.During = 6
-number_of rels.Finishes = 7
-number_of rels.StartedBy = 8
-number_of rels.FinishedBy = 9
-number_of rels.Overlaps = 10
-number_of rels.OverlappedBy = 11
-number_of rels.Contains = 12
+abbrev pub case_place : Rel → ℕ
+case_place rels.Before = 0
+case_place rels.Meets = 1
+case_place rels.After = 2
+case_place rels.MetBy = 3
+case_place rels.Equal = 4
+case_place rels.Starts = 5
+case_place rels.During = 6
+case_place rels.Finishes = 7
+case_place rels.StartedBy = 8
+case_place rels.FinishedBy = 9
+case_place rels.Overlaps = 10
+case_place rels.OverlappedBy = 11
+case_place rels.Contains = 12

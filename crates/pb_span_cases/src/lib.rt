@@ -9,6 +9,3 @@ mod table;
 pub use relations::{Rel, relation};
 pub use remainder::{Ends, minus};
 pub use table::{CASES, Case, Cases, Part};
-
-#[cfg(test)]
-mod tests;

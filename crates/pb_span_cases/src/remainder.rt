@@ -1,7 +1,8 @@
-ghost use Rattle.std.specs.Prelude.{◌≡◌, IfSome, false};
+ghost use Rattle.std.specs.Prelude.{◌≡◌, ◌++◌, IfSome, false};
+ghost use Rattle.std.specs.Option.{option_to_list};
 ghost use Rattle.pb_keys.specs.Span.{IsSpan, overlap};
 ghost use Rattle.pb_span_cases.specs.Relation.{IsCase};
-ghost use Rattle.pb_span_cases.specs.Remainder.{IsLine, Remains, ends_of, number_of};
+ghost use Rattle.pb_span_cases.specs.Remainder.{IsLine, Remains, remains, ends_of, case_place};
 
 use crate::relations::{Rel, relation};
 use crate::table::{CASES, Case, Part};
@@ -26,6 +27,7 @@ impl<'a> Model for Ends<'a> {
 /// What the cut leaves of a table: the part in front of it and the part behind it, as `CASES` names them.
 /// A table that the cut doesn't overlap stays whole, as the first part.
 pub fn minus<'a>(table: &'a Span, cut: &'a Span) -> (Option<Ends<'a>>, Option<Ends<'a>>)
+    ensures parts { option_to_list result.0 ++ option_to_list result.1 ≡ remains table.now cut.now }
     ensures keys { Remains table.now cut.now result.0 result.1 }
     ensures left { (line : Case) → IsLine line → IsCase line.rel table.now cut.now
         → result.0 ≡ ends_of line.left table.now cut.now }
@@ -48,7 +50,7 @@ fn line_of(rel: Rel) -> Case
 }
 
 fn place_of(rel: Rel) -> usize
-    ensures { result ≡ number_of rel }
+    ensures { result ≡ case_place rel }
 {
     rel as usize
 }

@@ -1,7 +1,14 @@
 use Rattle.std.proofs.Common.{◌∙◌, sym, refl}
 use Rattle.pb_span_cases.proofs.Remainders.{parts_remain, left_in_form, right_in_form, whole_part}
+use Rattle.pb_span_cases.proofs.RemainLaws.{parts_are_remains}
 use Rattle.pb_span_cases.proofs.TableFacts.{names_parts}
 use Rattle.pb_span_cases.proofs.remainder.minus.Goals as goal
+
+pub returns-clause-parts : goal.returns-clause-parts
+returns-clause-parts c =
+    let names = names_parts c.line_of-case.result c.relation.result c.args.table.now c.args.cut.now c.relation.ensures.in_form.0 c.relation.ensures.in_form.1
+    c.line_of-case.ensures.listed c.line_of-case.ensures.named c.relation.ensures.holds in
+    rw (c.part.ensures, c.part-2.ensures, names.left, names.right) (parts_are_remains c.args.table.now c.args.cut.now c.relation.ensures.in_form.0 c.relation.ensures.in_form.1)
 
 pub returns-clause-keys : goal.returns-clause-keys
 returns-clause-keys c =

@@ -1,8 +1,5 @@
-pub mod Bits
-pub mod LayerLaws
-pub mod NormalSpans
+pub mod LayerPairs
 pub mod PartCases
-pub mod Parts
 pub mod Passing
 pub mod RowMerging
 pub mod SpanMerging

@@ -8,7 +8,7 @@ use Rattle.pb_rows.specs.Viewed.{part_within}
 use Rattle.pb_span_cases.specs.Relation.{IsCase}
 use Rattle.pb_span_cases.specs.declared.relations.Rel.{Rel}
 use Rattle.pb_span_cases.specs.declared.relations.Rel.TheVariants as rels
-use Rattle.pb_rangedel.proofs.Parts.{no_part_before, no_part_behind, whole_part, bounds_part, front_part, back_part}
+use Rattle.pb_rows.proofs.Parts.{no_part_before, no_part_behind, whole_part, bounds_part, front_part, back_part}
 
 at_case : (rel other : Rel) (span bounds : KeySpan) → IsCase rel span bounds → rel ≡ other → IsCase other span bounds
 at_case rel other span bounds holds is = subst (λ r. IsCase r span bounds) is holds

@@ -1,95 +1,22 @@
 -- Newer rows over older ones, row by row.
-use Rattle.std.proofs.Common.{◌≡◌, ℕ, zero, suc, ◌+◌, ◌<◌, List, [], ◌∷◌, length, get_or, drop, Bool, true, false, cond, refl, sym, ap, ◌∙◌, subst, arith, inl, inr}
-use Rattle.std.specs.Prelude.{All, filter, not}
+use Rattle.std.proofs.Common.{◌≡◌, ℕ, ◌+◌, ◌<◌, List, [], ◌∷◌, ◌++◌, ◌≤◌, length, get_or, take, drop, true, false, cond, refl, sym, ap, ◌∙◌, subst, arith, inl, inr}
+use Rattle.std.specs.Prelude.{not, Option, Some, None}
+use Rattle.std.specs.List.{slice_get}
+use Rattle.std.proofs.lemmas.Option.{slice_get_within, slice_get_cases, get_or_from_slice_get}
 use Rattle.std.proofs.lemmas.Bool.{cases_lt}
-use Rattle.std.proofs.lemmas.List.{drop_more, drop_all, get_or_default}
-use Rattle.std.proofs.lemmas.List.Elements.{All-cons, All-head, All-tail, All-nil, All-weaker, All-filter}
-use Rattle.std.specs.declared.cmp.Ordering.{Ordering}
+use Rattle.std.proofs.lemmas.List.{drop_more, drop_all, length-drop, append_assoc, append-nil}
+use Rattle.std.proofs.lemmas.List.Elements.{All-cons, All-head, All-tail, All-nil, All-filter}
 use Rattle.std.specs.declared.cmp.Ordering.TheVariants.{Less, Equal, Greater}
 use Rattle.std.specs.FinMap.Entries.{by_order}
-use Rattle.std.specs.Ordering.{ordering_reverse}
 use Rattle.pb_keys.specs.Key.{key_cmp}
-use Rattle.pb_keys.specs.KeyLaws.{key_cmp_total, key_cmp_exact}
+use Rattle.pb_keys.specs.KeyLaws.{key_cmp_exact}
 use Rattle.pb_keys.specs.Span.{KeySpan}
-use Rattle.pb_rangedel.specs.Merging.{uncovered, rest_of}
-use Rattle.pb_rows.specs.Layer.{KeyRow, Rise, IsBelow, IsShort}
+use Rattle.pb_rangedel.specs.Merging.{uncovered, rest_of, hides_row, IsStep, IsNext, step_for}
+use Rattle.pb_rangedel.specs.declared.rows.Step.TheVariants.{Newer, Older, Skip}
+use Rattle.pb_rows.specs.Layer.{KeyRow, Rise}
 use Rattle.pb_rows.specs.Over.{with_row, rows_over}
 use Rattle.pb_rows.specs.Verdict.{is_covered}
-use Rattle.pb_rows.proofs.LookLaws.{rows_rise}
-
--- each row's key is above this one
-abbrev pub Follow : List ℕ → List KeyRow → Type 0
-Follow key rows = All (λ row. key_cmp key row.key ≡ Less) rows
-
--- each later row's key is above each earlier one's
-abbrev pub Rising : List KeyRow → Type 0
-Rising [] = Unit {0}
-Rising (r ∷ rs) = Follow r.key rs × Rising rs
-
-pub rising_from_rise : (rows : List KeyRow) → Rise rows → Rising rows
-rising_from_rise [] rise = tt
-rising_from_rise (r ∷ rs) rise = (
-  λ k d h. rows_rise (r ∷ rs) rise 0 (suc k) d (omega arith) (omega arith),
-  rising_from_rise rs (λ k d h.
-      let next : suc k + 1 ≡ suc (k + 1) = omega arith in
-      subst (λ n. IsBelow (get_or rs k d) (get_or (r ∷ rs) n d)) next (rise (suc k) d (omega arith))),
-)
-
-pub rise_from_rising : (rows : List KeyRow) → Rising rows → Rise rows
-rise_from_rising [] rising k d h = absurd (omega arith)
-rise_from_rising (r ∷ rs) rising zero d h = rising.0 0 d (omega arith)
-rise_from_rising (r ∷ rs) rising (suc k) d h =
-    let next : suc (k + 1) ≡ suc k + 1 = omega arith in
-    subst (λ n. IsBelow (get_or rs k d) (get_or (r ∷ rs) n d)) next (rise_from_rising rs rising.1 k d (omega arith))
-
-rising-drop : (n : ℕ) (rows : List KeyRow) → Rising rows → Rising (drop n rows)
-rising-drop zero rows rising = rising
-rising-drop (suc n) [] rising = tt
-rising-drop (suc n) (r ∷ rs) rising = rising-drop n rs rising.1
-
-pub rising-filter : (p : KeyRow → Bool) (rows : List KeyRow) → Rising rows → Rising (filter p rows)
-rising-filter p [] rising = tt
-rising-filter p (r ∷ rs) rising =
-    elim (p r) as (λ b. Rising (cond b (r ∷ filter p rs) (filter p rs))) [
-      | true ↦ (All-filter p (λ row. key_cmp r.key row.key ≡ Less) rs rising.0, rising-filter p rs rising.1)
-      | false ↦ rising-filter p rs rising.1
-    ]
-
-chained : (a b : List ℕ) (rows : List KeyRow) → key_cmp a b ≡ Less → Follow b rows → Follow a rows
-chained a b rows h follow = All-weaker (λ row. key_cmp b row.key ≡ Less) (λ row. key_cmp a row.key ≡ Less) (λ row k. key_cmp_total.trans a b row.key h k) rows follow
-
-all-with_row : (P : KeyRow → Type 0) (row : KeyRow) (rows : List KeyRow) → P row → All P rows → All P (with_row row rows)
-all-with_row P row [] h all = All-cons P row [] h all
-all-with_row P row (s ∷ ss) h all =
-    elim (key_cmp row.key s.key) as (λ o. All P (by_order o (row ∷ s ∷ ss) (row ∷ ss) (s ∷ with_row row ss))) [
-      | Less ↦ All-cons P row (s ∷ ss) h all
-      | Equal ↦ All-cons P row ss h (All-tail P s ss all)
-      | Greater ↦ All-cons P s (with_row row ss) (All-head P s ss all) (all-with_row P row ss h (All-tail P s ss all))
-    ]
-
-pub all-rows_over : (P : KeyRow → Type 0) (newer older : List KeyRow) → All P newer → All P older → All P (rows_over newer older)
-all-rows_over P [] older new old = old
-all-rows_over P (row ∷ newer) older new old =
-    all-with_row P row (rows_over newer older) (All-head P row newer new) (all-rows_over P newer older (All-tail P row newer new) old)
-
-pub turned_greater : (a b : List ℕ) → key_cmp a b ≡ Greater → key_cmp b a ≡ Less
-turned_greater a b h = key_cmp_total.antisymm b a ∙ ap ordering_reverse h
-
-pub turned_less : (a b : List ℕ) → key_cmp a b ≡ Less → key_cmp b a ≡ Greater
-turned_less a b h = key_cmp_total.antisymm b a ∙ ap ordering_reverse h
-
-pub rising-with_row : (row : KeyRow) (rows : List KeyRow) → Rising rows → Rising (with_row row rows)
-rising-with_row row [] rising = (All-nil (λ s. key_cmp row.key s.key ≡ Less), tt)
-rising-with_row row (s ∷ ss) rising =
-    elim (key_cmp row.key s.key) as (λ o. key_cmp row.key s.key ≡ o → Rising (by_order o (row ∷ s ∷ ss) (row ∷ ss) (s ∷ with_row row ss))) [
-      | Less ↦ λ e. (All-cons (λ r. key_cmp row.key r.key ≡ Less) s ss e (chained row.key s.key ss e rising.0), rising)
-      | Equal ↦ λ e. (subst (λ key. Follow key ss) (sym (key_cmp_exact row.key s.key e)) rising.0, rising.1)
-      | Greater ↦ λ e. (all-with_row (λ r. key_cmp s.key r.key ≡ Less) row ss (turned_greater row.key s.key e) rising.0, rising-with_row row ss rising.1)
-    ] refl
-
-pub rising-rows_over : (newer older : List KeyRow) → Rising older → Rising (rows_over newer older)
-rising-rows_over [] older rising = rising
-rising-rows_over (row ∷ newer) older rising = rising-with_row row (rows_over newer older) (rising-rows_over newer older rising)
+use Rattle.pb_rows.proofs.RowsOver.{Follow, Rising, rising_from_rise, rise_from_rising, rising-drop, chained, all-rows_over, turned_greater, turned_less}
 
 -- ---- the first row of the result
 
@@ -158,19 +85,85 @@ step_same dels newer older new old d rise_newer rise_older within_newer within_o
     ∙ same_front row (get_or older old d) (drop (new + 1) newer) rest same (rest_follows newer new d rise_newer within_newer) (uncovered_follow dels row.key (drop (old + 1) older) follows)
     ∙ ap (λ rows. rows_over rows rest) (sym (drop_more newer new d within_newer))
 
--- the order of two rows that were read
-pub order_at : (xs ys : List KeyRow) (i j : ℕ) (r s d : KeyRow) (o : Ordering) → i < length xs → j < length ys → r ≡ get_or xs i r → s ≡ get_or ys j s → key_cmp r.key s.key ≡ o → key_cmp (get_or xs i d).key (get_or ys j d).key ≡ o
-order_at xs ys i j r s d o in_xs in_ys r_is s_is e =
-    (λ k. key_cmp ((get_or_default xs i d r in_xs ∙ sym r_is) k).key ((get_or_default ys j d s in_ys ∙ sym s_is) k).key) ∙ e
+-- ---- by the rows that come next
 
-pub open_at : (dels : List KeySpan) (rows : List KeyRow) (at : ℕ) (r d : KeyRow) → at < length rows → r ≡ get_or rows at r → is_covered dels r.key ≡ false → is_covered dels (get_or rows at d).key ≡ false
-open_at dels rows at r d within r_is e = ap (λ (row : KeyRow). is_covered dels row.key) (get_or_default rows at d r within ∙ sym r_is) ∙ e
+place_of : (rows : List KeyRow) (at : ℕ) (row d : KeyRow) → Some row ≡ slice_get rows at → (at < length rows) × (get_or rows at d ≡ row)
+place_of rows at row d is = (slice_get_within rows at row (sym is), get_or_from_slice_get rows at row d (sym is))
 
--- ---- both layers' rows
+past_place : (rows : List KeyRow) (at : ℕ) → None ≡ slice_get rows at → at < length rows → ⊥
+past_place rows at is within = elim (slice_get_cases rows at).1 [ inl here ↦ cc (here.2) | inr past ↦ omega (arith, past.0) ]
 
-pub short_rows : (dels : List KeySpan) (newer older : List KeyRow) → All IsShort newer → All IsShort older → All IsShort (rows_over newer (uncovered dels older))
-short_rows dels newer older new old = all-rows_over IsShort newer (uncovered dels older) new (All-filter (λ row. not (is_covered dels row.key)) IsShort older old)
+pub none_next : (dels : List KeySpan) (newer older : List KeyRow) (new old : ℕ) → None ≡ slice_get newer new → None ≡ slice_get older old → rest_of dels newer older new old ≡ []
+none_next dels newer older new old n o =
+    (λ i. rows_over (drop_all new newer (past newer new n) i) (uncovered dels (drop_all old older (past older old o) i)))
+  where
+    past : (rows : List KeyRow) (at : ℕ) → None ≡ slice_get rows at → length rows ≤ at
+    past rows at is = elim (cases_lt at (length rows)) [ inl within ↦ absurd (past_place rows at is within) | inr h ↦ h ]
 
-pub rows_rise_over : (dels : List KeySpan) (newer older : List KeyRow) → Rise older → Rise (rows_over newer (uncovered dels older))
-rows_rise_over dels newer older rise =
-    rise_from_rising (rows_over newer (uncovered dels older)) (rising-rows_over newer (uncovered dels older) (rising-filter (λ row. not (is_covered dels row.key)) older (rising_from_rise older rise)))
+pub newer_next : (dels : List KeySpan) (newer older : List KeyRow) (new old : ℕ) (row : KeyRow) → Rise newer → Rise older → Some row ≡ slice_get newer new → None ≡ slice_get older old → IsStep Newer dels newer older new old
+newer_next dels newer older new old row rise_newer rise_older n o =
+    let within = (place_of newer new row row n).0 in
+    (within, λ d. step_newer dels newer older new old d rise_newer rise_older within (λ h. absurd (past_place older old o h)))
+
+pub skip_next : (dels : List KeySpan) (newer older : List KeyRow) (new old : ℕ) (row : KeyRow) → Some row ≡ slice_get older old → is_covered dels row.key ≡ true → IsStep Skip dels newer older new old
+skip_next dels newer older new old row o covered =
+    let at = place_of older old row row o in
+    let later = uncovered dels (drop (old + 1) older) in (
+      at.0,
+      ap (rows_over (drop new newer)) (
+          ap (uncovered dels) (drop_more older old row at.0)
+          ∙ ap (λ (r : KeyRow). cond (not (is_covered dels r.key)) (r ∷ later) later) at.1
+          ∙ ap (λ b. cond (not b) (row ∷ later) later) covered),
+    )
+
+pub open_next : (dels : List KeySpan) (newer older : List KeyRow) (new old : ℕ) (first : Option KeyRow) (row : KeyRow) → Rise newer → Rise older → first ≡ slice_get newer new → Some row ≡ slice_get older old → is_covered dels row.key ≡ false → IsNext (step_for first (Some row)) dels newer older new old
+open_next dels newer older new old None row rise_newer rise_older n o bare =
+    let at = place_of older old row row o in
+    (at.0, λ d. step_older dels newer older new old d rise_newer at.0 (ap (λ (r : KeyRow). is_covered dels r.key) (place_of older old row d o).1 ∙ bare) (λ h. absurd (past_place newer new n h)))
+open_next dels newer older new old (Some first) row rise_newer rise_older n o bare =
+    let old_at = λ (d : KeyRow). place_of older old row d o in
+    let new_at = λ (d : KeyRow). place_of newer new first d n in
+    let bare_at = λ (d : KeyRow). ap (λ (r : KeyRow). is_covered dels r.key) (old_at d).1 ∙ bare in
+    let order : (d : KeyRow) → key_cmp (get_or newer new d).key (get_or older old d).key ≡ key_cmp first.key row.key = λ d i. key_cmp ((new_at d).1 i).key ((old_at d).1 i).key in
+    elim (key_cmp first.key row.key) as (λ c. key_cmp first.key row.key ≡ c → IsStep (by_order c Newer Skip Older) dels newer older new old) [
+      | Less ↦ λ e. ((new_at first).0, λ d. step_newer dels newer older new old d rise_newer rise_older (new_at d).0 (λ _. order d ∙ e))
+      | Equal ↦ λ e. ((old_at row).0, step_same dels newer older new old row rise_newer rise_older (new_at row).0 (old_at row).0 (bare_at row) (order row ∙ e))
+      | Greater ↦ λ e. ((old_at row).0, λ d. step_older dels newer older new old d rise_newer (old_at d).0 (bare_at d) (λ _. order d ∙ e))
+    ] refl
+
+pub next_is : (dels : List KeySpan) (newer older : List KeyRow) (new old : ℕ) (first row : Option KeyRow) → Rise newer → Rise older → first ≡ slice_get newer new → row ≡ slice_get older old → hides_row dels row ≡ false → IsNext (step_for first row) dels newer older new old
+next_is dels newer older new old None None rise_newer rise_older n o bare = none_next dels newer older new old n o
+next_is dels newer older new old (Some first) None rise_newer rise_older n o bare = newer_next dels newer older new old first rise_newer rise_older n o
+next_is dels newer older new old None (Some row) rise_newer rise_older n o bare = open_next dels newer older new old None row rise_newer rise_older n o bare
+next_is dels newer older new old (Some first) (Some row) rise_newer rise_older n o bare = open_next dels newer older new old (Some first) row rise_newer rise_older n o bare
+
+pub skip_is : (dels : List KeySpan) (newer older : List KeyRow) (new old : ℕ) (row : Option KeyRow) → row ≡ slice_get older old → hides_row dels row ≡ true → IsStep Skip dels newer older new old
+skip_is dels newer older new old None o hidden = cc
+skip_is dels newer older new old (Some row) o hidden = skip_next dels newer older new old row o hidden
+
+-- ---- the first row of a list that is moved
+
+pub rise_rest : (rows rest : List KeyRow) → Rise rows → rest ≡ drop 1 rows → Rise rest
+rise_rest rows rest rise is = subst Rise (sym is) (rise_from_rising (drop 1 rows) (rising-drop 1 rows (rising_from_rise rows rise)))
+
+pub fewer_rest : (rows rest : List KeyRow) → 0 < length rows → rest ≡ drop 1 rows → length rest < length rows
+fewer_rest rows rest some is = omega (arith, ap length is, length-drop 1 rows)
+
+pub moved_newer : (dels : List KeySpan) (newer older rest out more all : List KeyRow) → IsStep Newer dels newer older 0 0 → more ≡ out ++ take 1 newer → rest ≡ drop 1 newer → out ++ rest_of dels newer older 0 0 ≡ all → more ++ rest_of dels rest older 0 0 ≡ all
+moved_newer dels [] older rest out more all step more_is rest_is whole = absurd (omega (arith, step.0))
+moved_newer dels (r ∷ rs) older rest out more all step more_is rest_is whole =
+    (λ i. more_is i ++ rest_of dels (rest_is i) older 0 0) ∙ append_assoc out (r ∷ []) (rest_of dels rs older 0 0)
+    ∙ ap (λ (rows : List KeyRow). out ++ rows) (sym (step.1 r)) ∙ whole
+
+pub moved_older : (dels : List KeySpan) (newer older rest out more all : List KeyRow) → IsStep Older dels newer older 0 0 → more ≡ out ++ take 1 older → rest ≡ drop 1 older → out ++ rest_of dels newer older 0 0 ≡ all → more ++ rest_of dels newer rest 0 0 ≡ all
+moved_older dels newer [] rest out more all step more_is rest_is whole = absurd (omega (arith, step.0))
+moved_older dels newer (r ∷ rs) rest out more all step more_is rest_is whole =
+    (λ i. more_is i ++ rest_of dels newer (rest_is i) 0 0) ∙ append_assoc out (r ∷ []) (rest_of dels newer rs 0 0)
+    ∙ ap (λ (rows : List KeyRow). out ++ rows) (sym (step.1 r)) ∙ whole
+
+pub skipped_older : (dels : List KeySpan) (newer older rest out all : List KeyRow) → IsStep Skip dels newer older 0 0 → rest ≡ drop 1 older → out ++ rest_of dels newer older 0 0 ≡ all → out ++ rest_of dels newer rest 0 0 ≡ all
+skipped_older dels newer older rest out all step rest_is whole =
+    ap (λ (rows : List KeyRow). out ++ rest_of dels newer rows 0 0) rest_is ∙ ap (λ (rows : List KeyRow). out ++ rows) (sym step.1) ∙ whole
+
+pub all_written : (dels : List KeySpan) (newer older out all : List KeyRow) (new old : ℕ) → rest_of dels newer older new old ≡ [] → out ++ rest_of dels newer older new old ≡ all → out ≡ all
+all_written dels newer older out all new old none whole = sym (append-nil out) ∙ ap (λ (rows : List KeyRow). out ++ rows) (sym none) ∙ whole

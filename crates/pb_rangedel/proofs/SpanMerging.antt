@@ -5,17 +5,17 @@ use Rattle.std.proofs.lemmas.List.{take_all, take_more, get_or_default}
 use Rattle.std.proofs.lemmas.List.Elements.{All-cons, All-head, All-tail, All-nil, All-weaker, All-pop, All-push, All-more}
 use Rattle.std.proofs.lemmas.List.Folds.{list_any-append}
 use Rattle.pb_keys.specs.Order.{is_below}
-use Rattle.pb_keys.specs.Span.{KeySpan, IsSpan, holds_key}
+use Rattle.pb_keys.specs.Span.{KeySpan, IsSpan, holds_key, joined}
 use Rattle.pb_keys.proofs.OrderFacts.{below_itself, below_one_way, below_chain, upto_chain}
 use Rattle.pb_rangedel.specs.Spans.{BeginUpto}
 use Rattle.pb_rows.specs.Layer.{AreApart}
-use Rattle.pb_rows.specs.Over.{joined, union_of}
+use Rattle.pb_rows.specs.Over.{union_of}
 use Rattle.pb_rows.specs.Verdict.{is_covered}
-use Rattle.pb_rows.proofs.HullLaws.{joined_is_span}
+use Rattle.pb_keys.proofs.SpanFacts.{joined_is_span}
 use Rattle.pb_rows.proofs.SpanLaws.{holds-joined, is_covered-union_of}
-use Rattle.pb_rangedel.proofs.Parts.{lesser_first}
-use Rattle.pb_rangedel.proofs.Bits.{or_false, either_groups, either_turns}
-use Rattle.pb_rangedel.proofs.NormalSpans.{Normal, normal_from_apart, apart_from_normal, normal-union_of, same_normal}
+use Rattle.pb_rows.proofs.Parts.{lesser_first}
+use Rattle.pb_rows.proofs.Tests.{or_false, either_groups, either_turns}
+use Rattle.pb_rows.proofs.NormalSpans.{Normal, normal_from_apart, apart_from_normal, normal-union_of, same_normal}
 
 -- ---- one more span at the end
 

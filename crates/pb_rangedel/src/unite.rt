@@ -1,12 +1,12 @@
 ghost use Rattle.std.specs.Prelude.{◌≡◌, ℕ, ◌<◌, List, length, ◌||◌, All, IfOk, OnOk, true, false, slice_index_or};
 ghost use Rattle.pb_keys.specs.Order.{is_below};
-ghost use Rattle.pb_keys.specs.Span.{KeySpan, IsSpan, span_of, holds_key};
+ghost use Rattle.pb_keys.specs.Span.{KeySpan, IsSpan, holds_key};
 ghost use Rattle.pb_rangedel.specs.Spans.{BeginUpto};
 ghost use Rattle.pb_rows.specs.Layer.{AreApart};
-ghost use Rattle.pb_rows.specs.Over.{joined, lesser, greater, union_of};
+ghost use Rattle.pb_rows.specs.Over.{union_of};
 ghost use Rattle.pb_rows.specs.Verdict.{is_covered};
 
-use pb_keys::{Span, SpanError};
+use pb_keys::Span;
 use std::alloc::{AllocError, Global};
 
 /// Spans that hold what one of both lists holds, in one pass over both.
@@ -71,7 +71,7 @@ fn append(alloc: Global, out: &mut Vec<Span>, next: &Span) -> Result<(), AllocEr
                 out.push(last)?;
                 out.push(span)?;
             } else {
-                let span = joined_of(alloc, &last, next)?;
+                let span = Span::joined(alloc, &last, next)?;
                 out.push(span)?;
             }
         }
@@ -85,38 +85,4 @@ fn are_apart(a: &Span, b: &Span) -> bool
     ensures { result ≡ (is_below a.now.hi b.now.lo || is_below b.now.hi a.now.lo) }
 {
     a.hi() < b.lo() || b.hi() < a.lo()
-}
-
-/// From the lesser start to the greater end.
-fn joined_of(alloc: Global, a: &Span, b: &Span) -> Result<Span, AllocError>
-    ensures ok { IfOk result (λ span. span ≡ joined a.now b.now) }
-{
-    let lo = lesser_of(a.lo(), b.lo());
-    let hi = greater_of(a.hi(), b.hi());
-    span_between(alloc, lo, hi)
-}
-
-#[tactic(auto, using(pb_keys::proofs::OrderFacts::compares))]
-pub(crate) fn lesser_of<'a>(a: &'a [u8], b: &'a [u8]) -> &'a [u8]
-    ensures { result.now ≡ lesser a.now b.now }
-{
-    if b < a { b } else { a }
-}
-
-#[tactic(auto, using(pb_keys::proofs::OrderFacts::compares))]
-pub(crate) fn greater_of<'a>(a: &'a [u8], b: &'a [u8]) -> &'a [u8]
-    ensures { result.now ≡ greater a.now b.now }
-{
-    if a < b { b } else { a }
-}
-
-pub(crate) fn span_between(alloc: Global, lo: &[u8], hi: &[u8]) -> Result<Span, AllocError>
-    requires { IsSpan (span_of lo.now hi.now) }
-    ensures ok { IfOk result (λ span. span ≡ span_of lo.now hi.now) }
-{
-    match Span::new(alloc, lo, hi) {
-        Ok(span) => Ok(span),
-        Err(SpanError::BadSpan) => unreachable!(),
-        Err(SpanError::NoMemory) => Err(AllocError),
-    }
 }

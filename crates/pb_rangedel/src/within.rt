@@ -1,12 +1,10 @@
 ghost use Rattle.std.specs.Prelude.{◌≡◌, ℕ, List, ◌&&◌, All, IfOk, OnOk, ◌++◌};
 ghost use Rattle.std.specs.Option.{option_to_list};
 ghost use Rattle.pb_keys.specs.Span.{IsSpan, holds_key};
-ghost use Rattle.pb_rangedel.specs.Spans.{cut_to};
+ghost use Rattle.pb_rows.specs.Viewed.{cut_to, part_within};
 ghost use Rattle.pb_rows.specs.Layer.{AreApart};
 ghost use Rattle.pb_rows.specs.Verdict.{is_covered};
-ghost use Rattle.pb_rows.specs.Viewed.{part_within};
 
-use super::unite::span_between;
 use pb_keys::Span;
 use pb_span_cases::{Rel, relation};
 use std::alloc::{AllocError, Global};
@@ -41,8 +39,8 @@ fn add_part(
         Rel::Before | Rel::Meets | Rel::After | Rel::MetBy => return Ok(()),
         Rel::Equal | Rel::Starts | Rel::During | Rel::Finishes => span.copy(alloc)?,
         Rel::StartedBy | Rel::FinishedBy | Rel::Contains => bounds.copy(alloc)?,
-        Rel::Overlaps => span_between(alloc, bounds.lo(), span.hi())?,
-        Rel::OverlappedBy => span_between(alloc, span.lo(), bounds.hi())?,
+        Rel::Overlaps => Span::between(alloc, bounds.lo(), span.hi())?,
+        Rel::OverlappedBy => Span::between(alloc, span.lo(), bounds.hi())?,
     };
     out.push(part)?;
     Ok(())

@@ -1,11 +1,10 @@
 use Rattle.std.proofs.Common.{◌≡◌, ◌++◌, ◌∷◌, ◌-◌, [], sym, ap, ◌∙◌, subst, take, List}
 use Rattle.std.specs.Prelude.{All, Some}
 use Rattle.std.proofs.lemmas.List.Elements.{All-pop, All-push}
-use Rattle.pb_keys.specs.Span.{KeySpan, IsSpan}
+use Rattle.pb_keys.specs.Span.{KeySpan, IsSpan, joined}
 use Rattle.pb_rows.specs.Layer.{AreApart}
-use Rattle.pb_rows.specs.Over.{joined}
 use Rattle.pb_rows.specs.Verdict.{is_covered}
-use Rattle.pb_rows.proofs.HullLaws.{joined_is_span}
+use Rattle.pb_keys.proofs.SpanFacts.{joined_is_span}
 use Rattle.pb_rangedel.specs.Spans.{BeginUpto}
 use Rattle.pb_rangedel.proofs.SpanMerging.{added_first, added_behind, added_joined, covered_joined}
 use Rattle.pb_rangedel.proofs.unite.append.Goals as goal

@@ -3,11 +3,10 @@ use Rattle.std.specs.Prelude.{All}
 use Rattle.std.proofs.lemmas.List.{take_all, take_more, flat_map_more}
 use Rattle.std.proofs.lemmas.List.Elements.{All-more}
 use Rattle.pb_keys.specs.Span.{KeySpan, IsSpan}
-use Rattle.pb_rangedel.specs.Spans.{cut_to}
-use Rattle.pb_rangedel.proofs.Parts.{apart_within, parts_in_form}
+use Rattle.pb_rows.specs.Viewed.{cut_to, part_within}
+use Rattle.pb_rows.proofs.Parts.{apart_within, parts_in_form}
 use Rattle.pb_rows.specs.Layer.{AreApart}
 use Rattle.pb_rows.specs.Verdict.{is_covered}
-use Rattle.pb_rows.specs.Viewed.{part_within}
 use Rattle.pb_rows.proofs.ViewLaws.{is_covered-cut}
 use Rattle.pb_rangedel.proofs.within.cut.Goals as goal
 

@@ -1,7 +1,7 @@
 use Rattle.std.proofs.Common.{◌≡◌, ◌<◌, take}
 use Rattle.std.specs.Prelude.{All}
 use Rattle.pb_keys.specs.Span.{IsSpan}
-use Rattle.pb_rangedel.specs.Spans.{cut_to}
+use Rattle.pb_rows.specs.Viewed.{cut_to}
 use Rattle.pb_rangedel.proofs.within.cut.Given as goal
 
 abbrev pub invariant-loop-span : goal.invariant-loop-span

@@ -3,7 +3,11 @@ pub mod PayloadLemmas
 pub mod TornLemmas
 pub mod PendingLemmas
 pub mod LogLemmas
-pub mod Frames
 pub mod LogStates
+pub mod WriteStates
+pub mod AppendStates
+pub mod CreateStates
+pub mod OpenStates
+pub mod EitherStates
 pub mod DecodeLemmas
 pub mod ReadLemmas

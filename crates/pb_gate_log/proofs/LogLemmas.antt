@@ -6,11 +6,12 @@ use Rattle.std.proofs.lemmas.List.{append-nil, take_at, drop_at, drop_more, get_
 use Rattle.std.proofs.lemmas.List.Elements.{All-append}
 use Rattle.pb_bytes.specs.BigEndian.{be32, number_of}
 use Rattle.pb_devices.specs.DiskCalls.{over}
+use Rattle.pb_devices.proofs.Over.{length-over}
 use Rattle.pb_gate_log.specs.Payloads.{max_payload, len_behind, begins_entry, payloads}
 use Rattle.pb_gate_log.specs.LogFile.{entry, written, IsLogFile}
-use Rattle.pb_gate_log.specs.Steps.{Torn, StandBefore, EndsAt, IsBarred}
+use Rattle.pb_gate_log.specs.Steps.{Torn, StandBefore, EndsAt, EndsForAnyGate}
 use Rattle.pb_gate_log.proofs.PayloadLemmas.{begins_entry_short, begins_entry_closed, payloads_end, payloads-entry, payloads-written, length-entry, begins_entry_long}
-use Rattle.pb_gate_log.proofs.TornLemmas.{length-over, take-over, before-over, behind-over}
+use Rattle.pb_gate_log.proofs.TornLemmas.{take-over, before-over, behind-over}
 
 pub written-append : (list more : List (List ℕ)) → written (list ++ more) ≡ written list ++ written more
 unfolding written
@@ -216,21 +217,21 @@ ends_log gate list bytes ends there closed =
     record { entries = ends.front.entries; place = ends.front.place; short = ends.front.short; within = there; closed = closed }
 
 -- the file ends at the gate's place, so nothing stands behind it
-pub barred_empty : (gate : ℕ) (list : List (List ℕ)) (bytes : List ℕ) → EndsAt gate list bytes → gate ≡ length bytes → IsBarred gate list bytes
+pub barred_empty : (gate : ℕ) (list : List (List ℕ)) (bytes : List ℕ) → EndsAt gate list bytes → gate ≡ length bytes → EndsForAnyGate gate list bytes
 barred_empty gate list bytes ends end = record {
   front = ends.front;
   last = begins_entry_short (1 ∷ drop (gate + 1) bytes) (omega (arith, length-drop (gate + 1) bytes));
 }
 
 -- no entry begins with the open gate that stands there
-pub barred_open : (gate : ℕ) (list : List (List ℕ)) (bytes : List ℕ) → EndsAt gate list bytes → gate < length bytes → get_or bytes gate 0 ≡ 1 → IsBarred gate list bytes
+pub barred_open : (gate : ℕ) (list : List (List ℕ)) (bytes : List ℕ) → EndsAt gate list bytes → gate < length bytes → get_or bytes gate 0 ≡ 1 → EndsForAnyGate gate list bytes
 barred_open gate list bytes ends there open_gate = record {
   front = ends.front;
   last = ap begins_entry (sym (gate_and_rest gate bytes there ∙ ap (λ g. g ∷ drop (gate + 1) bytes) open_gate)) ∙ ends.last;
 }
 
 -- a length above the limit stands behind the gate
-pub barred_over : (gate : ℕ) (list : List (List ℕ)) (bar bytes : List ℕ) → IsLogFile gate list bytes → length bar ≡ 4 → max_payload < number_of bar → IsBarred gate list (over bytes (gate + 1) bar)
+pub barred_over : (gate : ℕ) (list : List (List ℕ)) (bar bytes : List ℕ) → IsLogFile gate list bytes → length bar ≡ 4 → max_payload < number_of bar → EndsForAnyGate gate list (over bytes (gate + 1) bar)
 barred_over gate list bar bytes log four long =
     let within = log.within in
     let place : gate + 1 ≤ length bytes = omega arith in
@@ -242,7 +243,7 @@ barred_over gate list bar bytes log four long =
     }
 
 -- the write that shuts the gate, torn: whichever byte stands there, no entry begins
-pub torn_shut : (gate : ℕ) (list : List (List ℕ)) (start bytes : List ℕ) → IsBarred gate list start → Torn gate (gate + 1) start bytes → payloads bytes ≡ list
+pub torn_shut : (gate : ℕ) (list : List (List ℕ)) (start bytes : List ℕ) → EndsForAnyGate gate list start → Torn gate (gate + 1) start bytes → payloads bytes ≡ list
 torn_shut gate list start bytes barred torn =
     let stand = torn_at_gate gate list start bytes barred.front torn in
     let within = stand.within in
@@ -261,7 +262,7 @@ torn_shut gate list start bytes barred torn =
     })
 
 -- the write that shuts the gate, whole
-pub shut_log : (gate : ℕ) (list : List (List ℕ)) (start : List ℕ) → IsBarred gate list start → IsLogFile gate list (over start gate (0 ∷ []))
+pub shut_log : (gate : ℕ) (list : List (List ℕ)) (start : List ℕ) → EndsForAnyGate gate list start → IsLogFile gate list (over start gate (0 ∷ []))
 shut_log gate list start barred =
     let place = barred.front.within in
     let file = over start gate (0 ∷ []) in

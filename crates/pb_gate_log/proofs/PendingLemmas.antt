@@ -7,21 +7,22 @@ use Rattle.pb_devices.specs.DiskCalls.{IsCreated, IsWritten, IsOver, IsScribble,
 use Rattle.pb_devices.specs.Reads.{IsWithin}
 use Rattle.pb_devices.proofs.Options.{some_of, of_some, is_some_and}
 use Rattle.pb_devices.proofs.Images.{image_cases}
+use Rattle.pb_devices.proofs.Over.{length-over}
 use Rattle.pb_gate_log.specs.Steps.{Torn, IsDurable, IsPending}
-use Rattle.pb_gate_log.proofs.TornLemmas.{torn_range, length-over}
+use Rattle.pb_gate_log.proofs.TornLemmas.{torn_range}
 
 pub settled_durable : (bytes : List ℕ) (disk : Contents) (name : List ℕ) → IsSettled disk name → disk.seen name ≡ Some bytes → IsDurable bytes disk name
 settled_durable bytes disk name settled is = record {
   seen = is;
   durable = subst (λ (s : Option (List ℕ)). IfSome s (λ b. disk.durable name ≡ b)) is settled.durable;
-  whole = settled.whole;
+  whole = settled.nothing_pending;
 }
 
 pub durable_settled : (bytes : List ℕ) (disk : Contents) (name : List ℕ) → IsDurable bytes disk name → ((image : Option (List ℕ)) → disk.earlier name image → ⊥) → IsSettled disk name
 durable_settled bytes disk name durable last = record {
   durable = subst (λ (s : Option (List ℕ)). IfSome s (λ b. disk.durable name ≡ b)) (sym durable.seen) durable.durable;
-  whole = durable.whole;
-  last = last;
+  nothing_pending = durable.whole;
+  nothing_earlier = last;
 }
 
 pub created_durable : (old new : Contents) (name : List ℕ) → IsCreated old new name → IsDurable [] new name

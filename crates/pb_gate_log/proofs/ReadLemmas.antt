@@ -3,13 +3,13 @@ use Rattle.std.proofs.Common.{◌≡◌, ℕ, ◌+◌, ◌<◌, ◌≤◌, Bool,
 use Rattle.std.proofs.lemmas.List.{take_all}
 use Rattle.pb_devices.specs.Contents.{Contents}
 use Rattle.pb_devices.specs.DiskCalls.{Stays}
+use Rattle.pb_devices.proofs.Kept.{stays_then}
 use Rattle.pb_gate_log.proofs.DecodeLemmas.{take-add}
-use Rattle.pb_gate_log.proofs.Frames.{stays_then}
 
--- the bytes so far are the first of the file's, and the disk has not changed
+-- the bytes so far are the first of the file's, and neither the disk nor its count of faults has changed
 pub record IsReading (told : Bool) (old now : Contents) (before after : ℕ) (file : List ℕ) (len : ℕ) (read : List ℕ) : Type 0 where
   pub stays : told ≡ true → Stays old now
-  pub later : before ≤ after
+  pub calm : after ≡ before
   pub sized : told ≡ true → (all : List ℕ) → old.seen file ≡ Some all → len ≡ length all
   pub front : told ≡ true → (all : List ℕ) → old.seen file ≡ Some all → read ≡ take (length read) all
 
@@ -26,14 +26,13 @@ pub seen_still : (told : Bool) (old now : Contents) (before after : ℕ) (file :
 seen_still told old now before after file len read all reading tells is = (reading.stays tells file).seen ∙ is
 
 pub reading_on : (told : Bool) (old now next : Contents) (before after later : ℕ) (file : List ℕ) (len : ℕ) (read more : List ℕ) (want : ℕ) → IsReading told old now before after file len read
-    → (told ≡ true → Stays now next) → after ≤ later
+    → (told ≡ true → Stays now next) → later ≡ after
     → (told ≡ true → (all : List ℕ) → now.seen file ≡ Some all → more ≡ read ++ take want (drop (length read) all)) → length read + want ≤ len
     → IsReading told old next before later file len more
-reading_on told old now next before after later file len read more want reading stays rises piece within =
-    let first = reading.later in
+reading_on told old now next before after later file len read more want reading stays calm piece within =
     record {
       stays = λ tells. stays_then old now next (reading.stays tells) (stays tells);
-      later = omega arith;
+      calm = calm ∙ reading.calm;
       sized = reading.sized;
       front = λ tells all is.
           let size = reading.sized tells all is in

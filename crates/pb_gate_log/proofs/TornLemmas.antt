@@ -32,9 +32,6 @@ module _ (start : List ℕ) (at : ℕ) (bytes : List ℕ) (place : at ≤ length
   front_long : length (take at start ++ bytes) ≡ at + length bytes
   front_long = omega (arith, length-append (take at start) bytes, length-take-le at start place)
 
-  pub length-over : length (over start at bytes) ≡ max (length start) (at + length bytes)
-  length-over = omega (arith, length-append (take at start ++ bytes) (drop (at + length bytes) start), front_long, length-drop (at + length bytes) start)
-
   -- up to its end, a write leaves what stood before it and what was written
   pub take-over : take (at + length bytes) (over start at bytes) ≡ take at start ++ bytes
   take-over = take_at (take at start ++ bytes) (drop (at + length bytes) start) (at + length bytes) front_long

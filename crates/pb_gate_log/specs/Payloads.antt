@@ -1,5 +1,5 @@
 -- The list of payloads that the bytes of a gate log stand for.
-use Rattle.std.specs.Prelude.{◌≡◌, ℕ, zero, suc, ◌+◌, ◌==◌, ◌&&◌, Bool, List, [], ◌∷◌, length, take, drop, slice_index, nat_le, if◌then◌else◌, Option, IsSomeAnd}
+use Rattle.std.specs.Prelude.{◌≡◌, ℕ, zero, suc, ◌+◌, ◌==◌, ◌&&◌, Bool, List, [], ◌∷◌, length, take, drop, slice_index, nat_le, if◌then◌else◌, Option, Some, None, IsSomeAnd}
 use Rattle.pb_bytes.specs.BigEndian.{number_of}
 
 -- the longest payload, in bytes
@@ -31,3 +31,8 @@ payloads bytes = payloads_of (length bytes) bytes
 -- a file that is there and stands for this list
 abbrev pub HasList : List (List ℕ) → Option (List ℕ) → Type 0
 HasList list file = IsSomeAnd file (λ bytes. payloads bytes ≡ list)
+
+-- the payloads of a file, none where it is absent
+abbrev pub payloads_in : Option (List ℕ) → List (List ℕ)
+payloads_in None = []
+payloads_in (Some bytes) = payloads bytes

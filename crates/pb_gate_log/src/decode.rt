@@ -1,12 +1,20 @@
 ghost use Rattle.std.specs.Prelude.{◌≡◌, ◌∷◌, true, false, take, IfNone, IfSome, IfOk};
 ghost use Rattle.pb_bytes.specs.BigEndian.{be32};
-ghost use Rattle.pb_gate_log.specs.Payloads.{begins_entry, len_behind};
+ghost use Rattle.pb_gate_log.specs.Payloads.{begins_entry, len_behind, payloads};
 ghost use Rattle.pb_gate_log.specs.Steps.{EndsAt};
 
 use crate::MAX_PAYLOAD;
 use pb_bytes::read_be32;
 use pb_keys::Bytes;
 use std::alloc::{AllocError, Global};
+
+/// The payloads that the bytes of a log's file stand for, in order.
+pub fn payloads(alloc: Global, bytes: &[u8]) -> Result<Vec<Bytes>, AllocError>
+    ensures { IfOk result (λ found. found.items ≡ payloads bytes.now) }
+{
+    let (found, _gate) = decode(alloc, bytes)?;
+    Ok(found)
+}
 
 /// The payloads that these bytes stand for, and the place of the last gate.
 pub(crate) fn decode(alloc: Global, bytes: &[u8]) -> Result<(Vec<Bytes>, usize), AllocError>

@@ -4,7 +4,10 @@
 mod close;
 mod decode;
 mod gate_log;
+mod opening;
 mod reads;
 mod writes;
 
+pub use decode::payloads;
 pub use gate_log::{AppendError, GateLog, MAX_PAYLOAD};
+pub use opening::open_or_create;

@@ -1,5 +1,6 @@
 ghost use Rattle.std.specs.Prelude.{◌≡◌, ◌≢◌, ◌+◌, ◌-◌, ◌≤◌, ◌++◌, true, ℕ, List, length, take, drop, min, unwrap_or, vec_len, [], Option, Some, Ok, Err, IfOk, OnOk};
-ghost use Rattle.pb_devices.specs.Counts.{HasCause, Rose};
+ghost use Rattle.pb_devices.specs.Counts.{HasCauseAs};
+ghost use Rattle.pb_devices.specs.Faults.{IsDiskFault};
 ghost use Rattle.pb_devices.specs.DiskCalls.{Stays};
 ghost use Rattle.pb_devices.specs.Reads.{IsLength, read_len};
 
@@ -14,8 +15,7 @@ pub(crate) fn read_whole<D: Disk>(alloc: Global, disk: &mut D, file: &str) -> Re
     ensures bytes { D.told ≡ true → (bytes : List ℕ) → (D.contents disk.old).seen file.now ≡ Some bytes
         → IfOk result (λ read. read.items ≡ bytes) }
     ensures kept { D.told ≡ true → Stays (D.contents disk.old) (D.contents disk.new) }
-    ensures later { D.fault_count disk.old ≤ D.fault_count disk.new }
-    ensures failed { result ≡ Err Fault.Disk → Rose (D.fault_count disk.old) (D.fault_count disk.new) }
+    ensures cause { HasCauseAs IsDiskFault (D.fault_count disk.old) (D.fault_count disk.new) result }
     ensures bucket { result ≢ Err Fault.Bucket }
 {
     let len = len_of(disk, file)?;
@@ -39,9 +39,8 @@ fn len_of<D: Disk>(disk: &mut D, file: &str) -> Result<u64, Fault>
     ensures ok { D.told ≡ true → (bytes : List ℕ) → (D.contents disk.old).seen file.now ≡ Some bytes
         → IfOk result (λ len. len ≡ length bytes) }
     ensures kept { D.told ≡ true → Stays (D.contents disk.old) (D.contents disk.new) }
-    ensures later { D.fault_count disk.old ≤ D.fault_count disk.new }
-    ensures failed { result ≡ Err Fault.Disk → Rose (D.fault_count disk.old) (D.fault_count disk.new) }
-    ensures only { result ≢ Err Fault.Bucket }
+    ensures cause { HasCauseAs IsDiskFault (D.fault_count disk.old) (D.fault_count disk.new) result }
+    ensures bucket { result ≢ Err Fault.Bucket }
 {
     match disk.len(file) {
         Ok(found) => Ok(found.unwrap_or(0)),
@@ -60,9 +59,8 @@ fn read_piece<D: Disk>(
         → OnOk result (bytes.new.items ≡ bytes.old.items ++ take (length piece.old) (drop (vec_len bytes.old) all)) }
     ensures longer { vec_len bytes.old ≤ vec_len bytes.new }
     ensures kept { D.told ≡ true → Stays (D.contents disk.old) (D.contents disk.new) }
-    ensures later { D.fault_count disk.old ≤ D.fault_count disk.new }
-    ensures failed { result ≡ Err Fault.Disk → Rose (D.fault_count disk.old) (D.fault_count disk.new) }
-    ensures only { result ≢ Err Fault.Bucket }
+    ensures cause { HasCauseAs IsDiskFault (D.fault_count disk.old) (D.fault_count disk.new) result }
+    ensures bucket { result ≢ Err Fault.Bucket }
 {
     let Ok(count) = disk.read_at(file, bytes.len() as u64, piece) else {
         return Err(Fault::Disk);

@@ -1,8 +1,10 @@
 ghost use Rattle.std.specs.Prelude.{◌≡◌, ◌≤◌, [], ◌∷◌, true, None, Ok, Err, IfOk, OnOk};
+ghost use Rattle.pb_devices.specs.Counts.{HasCauseAs};
+ghost use Rattle.pb_devices.specs.Faults.{IsDiskFault};
 ghost use Rattle.pb_gate_log.specs.EachLog.{EachHas, EachLog};
 
 use pb_devices::{Disk, Failed, Fault};
-use pb_gate_log::{AppendError, GateLog};
+use pb_gate_log::{AppendError, GateLog, open_or_create};
 use pb_keys::Bytes;
 use pb_names::Name;
 use std::alloc::Global;
@@ -51,19 +53,31 @@ pub fn reopened<D: Disk>(
     disk: &mut D,
     name: Name,
 ) -> Result<(GateLog, Vec<Bytes>), Fault>
-    ensures { D.told ≡ true → IfOk result (λ found. EachLog found.0 found.1.items (D.contents disk.new)) }
+    ensures ok { D.told ≡ true → IfOk result (λ found. EachLog found.0 found.1.items (D.contents disk.new)) }
+    ensures cause { HasCauseAs IsDiskFault (D.fault_count disk.old) (D.fault_count disk.new) result }
 {
     let Ok(()) = disk.barrier() else {
         return Err(Fault::Disk);
     };
-    let Ok(found) = disk.len(name.as_str()) else {
-        return Err(Fault::Disk);
-    };
-    if found.is_some() {
-        return GateLog::open(alloc, disk, name);
+    open_or_create(alloc, disk, name)
+}
+
+/// Makes a log, appends so many of the payloads `ab`, an empty one and `c`, and gives the length that the log tells.
+pub fn len_after<D: Disk>(disk: &mut D, name: Name, count: u8) -> Result<u64, AppendError>
+    requires { D.told ≡ true → (D.contents disk.old).seen name ≡ None }
+{
+    let mut log = GateLog::create(disk, name)?;
+    if count == 0 {
+        return Ok(log.len());
     }
-    let Ok(log) = GateLog::create(disk, name) else {
-        return Err(Fault::Disk);
-    };
-    Ok((log, Vec::new(alloc)))
+    log.append(disk, b"ab")?;
+    if count == 1 {
+        return Ok(log.len());
+    }
+    log.append(disk, b"")?;
+    if count == 2 {
+        return Ok(log.len());
+    }
+    log.append(disk, b"c")?;
+    Ok(log.len())
 }

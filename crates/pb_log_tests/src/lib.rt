@@ -5,4 +5,4 @@ mod drive;
 #[cfg(test)]
 mod tests;
 
-pub use drive::{damaged, one_append, reopened, two_appends};
+pub use drive::{damaged, len_after, one_append, reopened, two_appends};

@@ -2,8 +2,8 @@ ghost use Rattle.std.specs.Prelude.{[], ◌∷◌, IfOk};
 ghost use Rattle.pb_gate_log.specs.EachLog.{EachHas};
 ghost use Rattle.pb_mem.specs.Disk.{held};
 
-use super::{damaged, one_append, reopened, two_appends};
-use pb_devices::Disk;
+use super::{damaged, len_after, one_append, reopened, two_appends};
+use pb_devices::{Disk, Fault};
 use pb_keys::Bytes;
 use pb_mem::MemDisk;
 use pb_names::{FileKind, Name, file};
@@ -166,6 +166,7 @@ fn fail_while_opening(
         "call {call}"
     );
     assert_eq!(rt; disk.faults() > 0, opened.is_err(), "call {call}");
+    assert!(rt; matches!(&opened, Ok(_) | Err(Fault::Disk)), "call {call}");
     let payloads = found_after_power(alloc, disk, name, pick)?;
     assert_eq!(rt; payloads.len(), damage.found, "call {call}");
     Ok(())
@@ -180,6 +181,54 @@ fn opening_keeps_the_list_of_a_damaged_file(rt: HostRuntime) -> Result<(), Fail>
                 fail_while_opening(&rt, rt.alloc(), damage, call, true, pick)?;
             }
         }
+    }
+    Ok(())
+}
+
+// Making it is a barrier, `len` and four calls more.
+fn fail_while_making(rt: &impl Abort, alloc: Global, call: u64, onward: bool) -> Result<(), Fail> {
+    let name = file(FileKind::Log, 3);
+    let last = if onward { LAST } else { call };
+    let mut disk = MemDisk::new(alloc, numbers(alloc, call, last)?, 0);
+    let opened = reopened(alloc, &mut disk, name);
+    assert_eq!(rt; opened.is_err(), call <= 6, "call {call}");
+    assert!(rt; matches!(&opened, Ok(_) | Err(Fault::Disk)), "call {call}");
+    let payloads = found_after_power(alloc, disk, name, 0)?;
+    assert_eq!(rt; payloads.len(), 0, "call {call}");
+    Ok(())
+}
+
+#[test]
+fn a_fault_is_told_as_a_fault_where_a_log_is_made(rt: HostRuntime) -> Result<(), Fail> {
+    for call in 1..8 {
+        fail_while_making(&rt, rt.alloc(), call, false)?;
+        fail_while_making(&rt, rt.alloc(), call, true)?;
+    }
+    Ok(())
+}
+
+#[test]
+fn a_log_tells_the_length_of_its_file(rt: HostRuntime) -> Result<(), Fail> {
+    let name = file(FileKind::Log, 3);
+    for (count, want) in [(0, 1), (1, 8), (2, 13), (3, 19)] {
+        let mut disk = MemDisk::new(rt.alloc(), Vec::new(rt.alloc()), 0);
+        assert!(rt; disk.len(name.as_str())?.is_none());
+        let len = len_after(&mut disk, name, count)?;
+        assert_eq!(rt; len, want, "{count} payloads");
+        assert_eq!(rt; disk.len(name.as_str())?, Some(len), "{count} payloads");
+    }
+    Ok(())
+}
+
+#[test]
+fn a_log_that_was_damaged_tells_the_length_of_its_file(rt: HostRuntime) -> Result<(), Fail> {
+    let name = file(FileKind::Log, 3);
+    for damage in &DAMAGES {
+        let mut disk = MemDisk::new(rt.alloc(), Vec::new(rt.alloc()), 0);
+        assert!(rt; disk.len(name.as_str())?.is_none());
+        damaged(&mut disk, name, damage.bytes)?;
+        let (log, _payloads) = reopened(rt.alloc(), &mut disk, name)?;
+        assert_eq!(rt; disk.len(name.as_str())?, Some(log.len()));
     }
     Ok(())
 }

@@ -1,6 +1,6 @@
 use Rattle.std.proofs.Common.{◌≡◌, ◌≤◌, ◌<◌, ◌++◌, length, take, drop, vec_len, sym, ap, ◌∙◌, subst, arith, length-take}
 use Rattle.pb_devices.specs.DiskCalls.{Stays}
-use Rattle.pb_gate_log.proofs.Frames.{stays_then}
+use Rattle.pb_devices.proofs.Kept.{stays_then}
 use Rattle.pb_gate_log.proofs.ReadLemmas.{reading_on, read_all, no_end, seen_still}
 use Rattle.pb_gate_log.proofs.reads.read_whole.Goals as goal
 use Rattle.pb_gate_log.proofs.reads.read_whole.Goals.{else-loop-piece-test, then-loop-piece-test+in_ok-read_piece+then-len-before}
@@ -16,7 +16,7 @@ loop-piece-preserved g c =
     reading_on g.D.Disk.told (g.D.Disk.contents c.args.disk.now) (g.D.Disk.contents c.loop-piece.disk) (g.D.Disk.contents c.read_piece.new.disk)
     (g.D.Disk.fault_count c.args.disk.now) (g.D.Disk.fault_count c.loop-piece.disk) (g.D.Disk.fault_count c.read_piece.new.disk)
     c.args.file.now c.in_ok-len.len read c.read_piece.new.bytes.items want c.loop-piece.invariant
-    c.in_ok-read_piece.ensures.kept c.in_ok-read_piece.ensures.later
+    c.in_ok-read_piece.ensures.kept (c.in_ok-read_piece.ensures.cause.calm tt)
     (λ told all is. c.in_ok-read_piece.ensures.bytes told all is ∙ ap (λ n. read ++ take want (drop n all)) sized)
     (omega (arith, length-take c.min-want.result c.loop-piece.piece, c.min-want.ensures, c.len-before.ensures, sized))
 

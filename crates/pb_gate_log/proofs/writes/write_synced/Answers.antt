@@ -1,23 +1,32 @@
 use Rattle.std.proofs.Common.{◌+◌, length, arith}
-use Rattle.pb_devices.proofs.Images.{stays_image}
-use Rattle.pb_gate_log.proofs.PendingLemmas.{durable_pending, left_by, on_err, within_durable}
+use Rattle.pb_devices.proofs.Kept.{stays_kept}
+use Rattle.pb_gate_log.proofs.WriteStates.{overwrites_err, overwrites_ok, writing_stays, writing_then}
 use Rattle.pb_gate_log.proofs.writes.write_synced.Goals as goal
 
-pub returns-in_err-write_behind-clause-crash : goal.returns-in_err-write_behind-clause-crash
-returns-in_err-write_behind-clause-crash g c told start image durable left =
-    let end = c.args.at + length c.args.bytes.now in
-    let first = durable_pending start c.args.at end (g.D.Disk.contents c.args.disk.now) c.args.file.now durable in
-    let wrote = c.in_err-write_behind.ensures.pending told start c.args.at end first (omega arith) (omega arith) in
-    on_err _ _
-    (left_by start c.args.at end (g.D.Disk.contents c.args.disk.now) (g.D.Disk.contents c.write_behind.new.disk) c.args.file.now image (c.in_err-write_behind.ensures.earlier told) wrote
-    (within_durable c.args.at start (g.D.Disk.contents c.args.disk.now) c.args.file.now (c.requires told) durable) left)
+pub returns-in_err-write_behind-clause-writes : goal.returns-in_err-write_behind-clause-writes
+returns-in_err-write_behind-clause-writes g c told =
+    let at = c.args.at in
+    let bytes = c.args.bytes.now in
+    overwrites_err c.from_residual.result c.from_residual.ensures.0 c.args.file.now (g.D.Disk.contents c.args.disk.now) (g.D.Disk.contents c.write_behind.new.disk) at bytes (c.requires told)
+    (c.in_err-write_behind.ensures.writing told at (at + length bytes) (omega arith) (omega arith))
 
-pub returns-in_err-sync-clause-crash : goal.returns-in_err-sync-clause-crash
-returns-in_err-sync-clause-crash g c told start image durable left =
-    let end = c.args.at + length c.args.bytes.now in
-    let first = durable_pending start c.args.at end (g.D.Disk.contents c.args.disk.now) c.args.file.now durable in
-    let wrote = c.in_ok-write_behind.ensures.pending told start c.args.at end first (omega arith) (omega arith) in
-    let before = stays_image (g.D.Disk.contents c.write_behind.new.disk) (g.D.Disk.contents c.sync.new.self) c.args.file.now image (c.in_err-sync.ensures.err told c.args.file.now) left in
-    on_err _ _
-    (left_by start c.args.at end (g.D.Disk.contents c.args.disk.now) (g.D.Disk.contents c.write_behind.new.disk) c.args.file.now image (c.in_ok-write_behind.ensures.earlier told) wrote
-    (within_durable c.args.at start (g.D.Disk.contents c.args.disk.now) c.args.file.now (c.requires told) durable) before)
+pub returns-in_err-sync-clause-writes : goal.returns-in_err-sync-clause-writes
+returns-in_err-sync-clause-writes g c told =
+    let at = c.args.at in
+    let bytes = c.args.bytes.now in
+    let file = c.args.file.now in
+    let old = g.D.Disk.contents c.args.disk.now in
+    let mid = g.D.Disk.contents c.write_behind.new.disk in
+    let new = g.D.Disk.contents c.sync.new.self in
+    let stays = c.in_err-sync.ensures.err told in
+    overwrites_err c.from_residual-in_err-sync.result c.from_residual-in_err-sync.ensures.0 file old new at bytes (c.requires told)
+    (writing_then at (at + length bytes) old mid new file (c.in_ok-write_behind.ensures.writing told at (at + length bytes) (omega arith) (omega arith))
+    (writing_stays at (at + length bytes) mid new file (stays file) (stays_kept mid new file stays)))
+
+pub returns-clause-writes : goal.returns-clause-writes
+returns-clause-writes g c told =
+    let at = c.args.at in
+    let bytes = c.args.bytes.now in
+    let writing = c.in_ok-write_behind.ensures.writing told at (at + length bytes) (omega arith) (omega arith) in
+    overwrites_ok _ c.args.file.now (g.D.Disk.contents c.args.disk.now) (g.D.Disk.contents c.write_behind.new.disk) (g.D.Disk.contents c.sync.new.self)
+    (c.in_ok-sync.ensures.ok told) writing.earlier writing.others at bytes (c.in_ok-write_behind.ensures.ok told)

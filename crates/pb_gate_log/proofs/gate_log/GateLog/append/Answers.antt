@@ -1,80 +1,63 @@
-use Rattle.std.proofs.Common.{◌≡◌, ℕ, ◌+◌, List, [], ◌∷◌, ◌++◌, length, sym, ap, ◌∙◌, subst, inl, inr, arith}
+use Rattle.std.proofs.Common.{◌≡◌, ℕ, ◌+◌, List, length, max, sym, ap, ◌∙◌, subst, arith}
 use Rattle.pb_gate_log.specs.EachLog.{EachLog, LogPlace}
-use Rattle.pb_gate_log.proofs.LogStates.{each_has, each_opened, entry_torn, gate_torn, gate_within, left_at, log_at, rest_at}
+use Rattle.pb_gate_log.proofs.AppendStates.{appends_entry, appends_moved, appends_no_entry, appends_no_gate, appends_nothing, gate_within}
+use Rattle.pb_gate_log.proofs.LogStates.{log_at}
 use Rattle.pb_gate_log.proofs.gate_log.GateLog.append.Goals as goal
 
-pub returns-then-len-gt-MAX_PAYLOAD-clause-crash : goal.returns-then-len-gt-MAX_PAYLOAD-clause-crash
-returns-then-len-gt-MAX_PAYLOAD-clause-crash g c told list image each left =
-    inl (each_has c.args.self.now list (g.D.Disk.contents c.args.disk.now) each image left)
+pub returns-then-len-gt-MAX_PAYLOAD-clause-appends : goal.returns-then-len-gt-MAX_PAYLOAD-clause-appends
+returns-then-len-gt-MAX_PAYLOAD-clause-appends g c told =
+    let at = log_at c.self.inside.file c.self.inside.gate c.self.inside.len in
+    appends_moved c.args.self.now at c.args.self.now at c.args.payload.now (g.D.Disk.contents c.args.disk.now) (g.D.Disk.contents c.args.disk.now) _ (sym c.self.view_is) (sym c.self.view_is)
+    (appends_nothing c.self.inside.file c.self.inside.gate c.self.inside.len c.args.payload.now (g.D.Disk.contents c.args.disk.now) _)
 
-pub returns-in_err-write_entry-clause-crash : goal.returns-in_err-write_entry-clause-crash
-returns-in_err-write_entry-clause-crash g c told list image each left =
-    let log = c.args.self.now in
+pub returns-in_err-write_entry-clause-appends : goal.returns-in_err-write_entry-clause-appends
+returns-in_err-write_entry-clause-appends g c told =
     let name = c.as_str-name.result.now in
     let gate = c.self.inside.gate in
-    let same : log ≡ log_at name gate = sym c.self.view_is ∙ ap (λ (f : List ℕ). log_at f gate) (sym c.as_str-name.ensures.value) in
-    let old = g.D.Disk.contents c.args.disk.now in
-    let rest = rest_at log list old name gate same each in
-    inl (entry_torn log list old name gate same each (gate + 6 + length c.args.payload.now) image
-    (c.in_err-write_entry.ensures.crash told rest.bytes image rest.durable (left_at log list old name gate same each (g.D.Disk.contents c.write_entry.new.disk) image left)))
+    let len = c.self.inside.len in
+    let same : c.args.self.now ≡ log_at name gate len = sym c.self.view_is ∙ ap (λ (f : List ℕ). log_at f gate len) (sym c.as_str-name.ensures.value) in
+    appends_moved c.args.self.now (log_at name gate len) c.args.self.now (log_at name gate len) c.args.payload.now (g.D.Disk.contents c.args.disk.now) (g.D.Disk.contents c.write_entry.new.disk) c.from_residual.result same same
+    (appends_no_entry name gate len c.args.payload.now (g.D.Disk.contents c.args.disk.now) c.from_residual.result c.from_residual.ensures.0 _ (g.D.Disk.contents c.write_entry.new.disk) (c.in_err-write_entry.ensures.stages told))
 
 pub write_synced-requires : goal.write_synced-requires
 write_synced-requires g c told =
-    let log = c.args.self.now in
     let name = c.as_str-name.result.now in
     let gate = c.self.inside.gate in
-    let same : log ≡ log_at name gate = sym c.self.view_is ∙ ap (λ (f : List ℕ). log_at f gate) (sym c.as_str-name.ensures.value) in
-    let old = g.D.Disk.contents c.args.disk.now in
+    let len = c.self.inside.len in
+    let same : c.args.self.now ≡ log_at name gate len = sym c.self.view_is ∙ ap (λ (f : List ℕ). log_at f gate len) (sym c.as_str-name.ensures.value) in
     let has = c.requires told in
-    let rest = rest_at log has.0 old name gate same has.1 in
-    gate_within log has.0 old name gate same has.1 c.args.payload.now (omega arith) (g.D.Disk.contents c.write_entry.new.disk) (c.in_ok-write_entry.ensures.ok told rest.bytes rest.durable)
+    gate_within name gate len c.args.payload.now (g.D.Disk.contents c.args.disk.now) _ has.0 (g.D.Disk.contents c.write_entry.new.disk) (c.in_ok-write_entry.ensures.stages told)
+    (subst (λ (l : LogPlace). EachLog l has.0 (g.D.Disk.contents c.args.disk.now)) same has.1)
 
-pub returns-in_err-write_synced-clause-crash : goal.returns-in_err-write_synced-clause-crash
-returns-in_err-write_synced-clause-crash g c told list image each left =
-    let log = c.args.self.now in
+pub returns-in_err-write_synced-clause-appends : goal.returns-in_err-write_synced-clause-appends
+returns-in_err-write_synced-clause-appends g c told =
     let name = c.as_str-name.result.now in
     let gate = c.self.inside.gate in
-    let same : log ≡ log_at name gate = sym c.self.view_is ∙ ap (λ (f : List ℕ). log_at f gate) (sym c.as_str-name.ensures.value) in
+    let len = c.self.inside.len in
     let old = g.D.Disk.contents c.args.disk.now in
-    let mid = g.D.Disk.contents c.write_entry.new.disk in
-    let rest = rest_at log list old name gate same each in
-    let staged = c.in_ok-write_entry.ensures.ok told rest.bytes rest.durable in
-    let torn = c.in_err-write_synced.ensures.crash told staged.bytes image staged.durable (left_at log list old name gate same each (g.D.Disk.contents c.write_synced.new.disk) image left) in
-    gate_torn log list old name gate same each c.args.payload.now (omega arith) mid staged image
-    (elim torn [ inl before ↦ inl (c.in_ok-write_entry.ensures.earlier told image before) | inr is ↦ inr is ])
+    let new = g.D.Disk.contents c.write_synced.new.disk in
+    let same : c.args.self.now ≡ log_at name gate len = sym c.self.view_is ∙ ap (λ (f : List ℕ). log_at f gate len) (sym c.as_str-name.ensures.value) in
+    appends_moved c.args.self.now (log_at name gate len) c.args.self.now (log_at name gate len) c.args.payload.now old new c.from_residual-in_err-write_synced.result same same
+    (appends_no_gate name gate len c.args.payload.now old _ (g.D.Disk.contents c.write_entry.new.disk) new (omega arith) (c.in_ok-write_entry.ensures.stages told)
+    c.from_residual-in_err-write_synced.result c.from_residual-in_err-write_synced.ensures.0 _
+    (c.in_err-write_synced.ensures.writes told))
 
-pub returns-clause-ok : goal.returns-clause-ok
-returns-clause-ok g c told list each =
-    let log = c.args.self.now in
+pub returns-clause-appends : goal.returns-clause-appends
+returns-clause-appends g c told =
     let name = c.as_str-name.result.now in
+    let file = c.self.inside.file in
     let gate = c.self.inside.gate in
+    let len = c.self.inside.len in
+    let end = c.max-self-inside.result in
     let payload = c.args.payload.now in
-    let same : log ≡ log_at name gate = sym c.self.view_is ∙ ap (λ (f : List ℕ). log_at f gate) (sym c.as_str-name.ensures.value) in
+    let n = length payload in
     let old = g.D.Disk.contents c.args.disk.now in
     let mid = g.D.Disk.contents c.write_entry.new.disk in
     let new = g.D.Disk.contents c.write_synced.new.disk in
-    let rest = rest_at log list old name gate same each in
-    let staged = c.in_ok-write_entry.ensures.ok told rest.bytes rest.durable in
-    let opened = each_opened log list old name gate same each payload (omega arith) mid staged new
-    (c.in_ok-write_synced.ensures.ok told staged.bytes staged.durable)
-    (λ image is. c.in_ok-write_entry.ensures.earlier told image (c.in_ok-write_synced.ensures.earlier told image is)) in
-    let place : log_at name (gate + 5 + length payload) ≡ log_at c.self.inside.file (gate + (5 + length payload)) =
-    ap (λ (f : List ℕ). log_at f (gate + 5 + length payload)) c.as_str-name.ensures.value ∙ ap (log_at c.self.inside.file) (omega arith) in
-    subst (λ (l : LogPlace). EachLog l (list ++ payload ∷ []) new) place opened
-
-pub returns-clause-crash : goal.returns-clause-crash
-returns-clause-crash g c told list image each left =
-    let log = c.args.self.now in
-    let name = c.as_str-name.result.now in
-    let gate = c.self.inside.gate in
-    let payload = c.args.payload.now in
-    let same : log ≡ log_at name gate = sym c.self.view_is ∙ ap (λ (f : List ℕ). log_at f gate) (sym c.as_str-name.ensures.value) in
-    let old = g.D.Disk.contents c.args.disk.now in
-    let mid = g.D.Disk.contents c.write_entry.new.disk in
-    let new = g.D.Disk.contents c.write_synced.new.disk in
-    let rest = rest_at log list old name gate same each in
-    let staged = c.in_ok-write_entry.ensures.ok told rest.bytes rest.durable in
-    let opened = each_opened log list old name gate same each payload (omega arith) mid staged new
-    (c.in_ok-write_synced.ensures.ok told staged.bytes staged.durable)
-    (λ image is. c.in_ok-write_entry.ensures.earlier told image (c.in_ok-write_synced.ensures.earlier told image is)) in
-    inr (each_has (log_at name (gate + 5 + length payload)) (list ++ payload ∷ []) new opened image (left_at log list old name gate same each new image left))
+    let same : c.args.self.now ≡ log_at name gate len = sym c.self.view_is ∙ ap (λ (f : List ℕ). log_at f gate len) (sym c.as_str-name.ensures.value) in
+    let same' : log_at file (gate + (5 + n)) end ≡ log_at name (gate + 5 + n) (max len (gate + 6 + n)) =
+    ap (λ (f : List ℕ). log_at f (gate + (5 + n)) end) (sym c.as_str-name.ensures.value)
+    ∙ ap (λ k. log_at name k end) (omega arith)
+    ∙ ap (λ k. log_at name (gate + 5 + n) k) (omega (arith, c.max-self-inside.ensures)) in
+    appends_moved c.args.self.now (log_at name gate len) (log_at file (gate + (5 + n)) end) (log_at name (gate + 5 + n) (max len (gate + 6 + n))) payload old new _ same same'
+    (appends_entry name gate len payload old tt mid new (omega arith) (c.in_ok-write_entry.ensures.stages told) (c.in_ok-write_synced.ensures.writes told))

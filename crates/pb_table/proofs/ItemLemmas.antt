@@ -7,7 +7,7 @@ use Rattle.pb_bytes.proofs.ReadingLemmas.{one_field}
 use Rattle.pb_keys.specs.Span.{KeySpan, IsSpan, span_of}
 use Rattle.pb_rows.specs.Layer.{KeyRow}
 use Rattle.pb_table.specs.Spelling.{span_spelling, value_spelling, row_spelling}
-use Rattle.pb_table.specs.Spells.{IsRow}
+use Rattle.pb_table.specs.Spells.{IsTableRow}
 use Rattle.pb_table.proofs.CountedLemmas.{OneStart}
 
 -- the field that was read is that of the spelling, and what is left is the spelling's rest
@@ -43,7 +43,7 @@ one_value (Some a) (Some b) x y is_a is_b same =
     let values = one_field a b x y (omega (arith, is_a)) (omega (arith, is_b)) fields in
     (ap Some values.0, values.1)
 
-pub one_row : OneStart row_spelling IsRow
+pub one_row : OneStart row_spelling IsTableRow
 one_row a b x y is_a is_b same =
     let a_key : length a.key ≤ 1024 = is_a.key.within in
     let b_key : length b.key ≤ 1024 = is_b.key.within in
@@ -71,14 +71,14 @@ span_is from lo left read fits hi behind read_hi hi_fits span rest is spelled =
 
 -- of a row
 pub behind_key : (from key left : List ℕ) → from ≡ field key ++ left → length key < 2 ^ 64
-    → (row : KeyRow) (rest : List ℕ) → IsRow row → from ≡ row_spelling row ++ rest → (row.key ≡ key) × (left ≡ value_spelling row.value ++ rest)
+    → (row : KeyRow) (rest : List ℕ) → IsTableRow row → from ≡ row_spelling row ++ rest → (row.key ≡ key) × (left ≡ value_spelling row.value ++ rest)
 behind_key from key left read fits row rest is spelled =
     let within : length row.key ≤ 1024 = is.key.within in
     let parts = behind_field from key left read fits row.key (value_spelling row.value) rest (omega arith) spelled in
     (sym parts.0, parts.1)
 
 pub no_value : {X : Type 0} (left : List ℕ) (read : Option X) → IfNone read ((value : Option (List ℕ)) (rest : List ℕ) → IsShortValue value → left ≡ value_spelling value ++ rest → ⊥)
-    → read ≡ None → (row : KeyRow) (rest : List ℕ) → IsRow row → left ≡ value_spelling row.value ++ rest → ⊥
+    → read ≡ None → (row : KeyRow) (rest : List ℕ) → IsTableRow row → left ≡ value_spelling row.value ++ rest → ⊥
 no_value left None none is_none row rest is spelled = none row.value rest is.short spelled
 no_value left (Some read) none is_none row rest is spelled = absurd (cc)
 

@@ -1,14 +1,14 @@
 -- How long the bytes of a table are.
-use Rattle.std.proofs.Common.{◌≡◌, ℕ, suc, ◌+◌, ◌*◌, ◌≤◌, List, [], ◌∷◌, ◌++◌, length, ap, arith, length-append, Option, Some, None}
+use Rattle.std.proofs.Common.{◌≡◌, ℕ, suc, ◌+◌, ◌*◌, ◌<◌, ◌≤◌, ◌^◌, List, [], ◌∷◌, ◌++◌, length, ap, arith, length-append, Option, Some, None}
 use Rattle.std.specs.List.{All, flat_map}
 use Rattle.pb_bytes.specs.Varint.{varint, field}
 use Rattle.pb_bytes.proofs.VarintLemmas.{length-varint, length-varint_pos, length-field}
 use Rattle.pb_keys.specs.Span.{KeySpan, IsSpan}
 use Rattle.pb_rows.specs.Layer.{KeyRow, KeyLayer}
 use Rattle.pb_table.specs.Spelling.{counted, span_spelling, value_spelling, row_spelling}
-use Rattle.pb_table.specs.Spells.{IsRow, Spells}
+use Rattle.pb_table.specs.Spells.{IsTableRow, Spells}
 use Rattle.pb_table.proofs.ItemLemmas.{IsShortValue}
-use Rattle.pb_table.proofs.TableLemmas.{spelled_1, rows_in_form}
+use Rattle.pb_table.proofs.FormatLemmas.{spelled_1, rows_in_form}
 
 -- from so many bytes to so many
 pub record IsBetween (low high : ℕ) (bytes : List ℕ) : Type 0 where
@@ -53,7 +53,7 @@ value_between (Some bytes) is =
     let within = field_between 0 65536 bytes (omega arith) is in
     record { least = omega arith; most = omega (arith, within.most) }
 
-row_between : (row : KeyRow) → IsRow row → IsBetween 3 66581 (row_spelling row)
+row_between : (row : KeyRow) → IsTableRow row → IsBetween 3 66581 (row_spelling row)
 row_between row is =
     let key = field_between 1 1024 row.key is.key.some is.key.within in
     let value = value_between row.value is.short in
@@ -65,8 +65,15 @@ pub table_between : (bytes : List ℕ) (layer : KeyLayer) → Spells bytes layer
     → IsBetween (3 + 4 * length layer.dels + 3 * length layer.rows) (21 + 2070 * length layer.dels + 66581 * length layer.rows) bytes
 table_between bytes layer spells =
     let dels = counted_between span_spelling IsSpan 4 2070 span_between layer.dels spells.of.in_form.spans in
-    let rows = counted_between row_spelling IsRow 3 66581 row_between layer.rows (rows_in_form layer spells.of.in_form) in
+    let rows = counted_between row_spelling IsTableRow 3 66581 row_between layer.rows (rows_in_form layer spells.of.in_form) in
     let sum : length (counted span_spelling layer.dels ++ counted row_spelling layer.rows) ≡ length (counted span_spelling layer.dels) + length (counted row_spelling layer.rows) =
     length-append (counted span_spelling layer.dels) (counted row_spelling layer.rows) in
     let whole = ap length (spelled_1 bytes layer spells) in
     record { least = omega (arith, dels.least, rows.least, whole); most = omega (arith, dels.most, rows.most, whole) }
+
+-- a table's numbers of spans and of rows are varints
+pub dels_fit : (bytes : List ℕ) (layer : KeyLayer) → Spells bytes layer → length layer.dels < 2 ^ 64
+dels_fit bytes layer spells = let size = table_between bytes layer spells in omega (arith, size.least, spells.fits)
+
+pub rows_fit : (bytes : List ℕ) (layer : KeyLayer) → Spells bytes layer → length layer.rows < 2 ^ 64
+rows_fit bytes layer spells = let size = table_between bytes layer spells in omega (arith, size.least, spells.fits)

@@ -1,12 +1,12 @@
 ghost use Rattle.std.specs.Prelude.{ℕ, ◌≡◌, ◌<◌, ◌≤◌, ◌^◌, ◌++◌, List, Option, All, IfNone, IfSome, IfOk, OnOk, length};
 ghost use Rattle.pb_rows.specs.Layer.{KeyRow};
 ghost use Rattle.pb_table.specs.Spelling.{counted, value_spelling, row_spelling};
-ghost use Rattle.pb_table.specs.Spells.{IsRow};
+ghost use Rattle.pb_table.specs.Spells.{IsTableRow};
 
 use super::fields::{split_field, split_varint};
 use pb_bytes::{put_field, put_varint};
-use pb_keys::{Bytes, Key, KeyError};
-use pb_rows::{MAX_VALUE, Row};
+use pb_keys::{Bytes, Key, KeyError, MAX_VALUE};
+use pb_rows::Row;
 use std::alloc::{AllocError, Global};
 
 /// The byte behind the key of a deleted row, and the one in front of a value.
@@ -42,9 +42,9 @@ fn put_row(alloc: Global, out: &mut Vec<u8>, row: &Row) -> Result<(), AllocError
 /// The rows whose number and spellings begin these bytes, and what stands behind them.
 pub(crate) fn read_rows(alloc: Global, from: &[u8]) -> Result<Option<(Vec<Row>, &[u8])>, AllocError>
     ensures found { IfOk result (λ read. IfSome read (λ found. from.now ≡ counted row_spelling found.0.items ++ found.1.now)) }
-    ensures in_form { IfOk result (λ read. IfSome read (λ found. All IsRow found.0.items)) }
+    ensures in_form { IfOk result (λ read. IfSome read (λ found. All IsTableRow found.0.items)) }
     ensures none { IfOk result (λ read. IfNone read ((rows : List KeyRow) (rest : List ℕ)
-        → All IsRow rows → length rows < 2 ^ 64 → from.now ≡ counted row_spelling rows ++ rest → ⊥)) }
+        → All IsTableRow rows → length rows < 2 ^ 64 → from.now ≡ counted row_spelling rows ++ rest → ⊥)) }
 {
     let Some((count, mut rest)) = split_varint(from) else {
         return Ok(None);
@@ -63,9 +63,9 @@ pub(crate) fn read_rows(alloc: Global, from: &[u8]) -> Result<Option<(Vec<Row>, 
 
 fn read_row(alloc: Global, from: &[u8]) -> Result<Option<(Row, &[u8])>, AllocError>
     ensures found { IfOk result (λ read. IfSome read (λ found. from.now ≡ row_spelling found.0 ++ found.1.now)) }
-    ensures in_form { IfOk result (λ read. IfSome read (λ found. IsRow found.0)) }
+    ensures in_form { IfOk result (λ read. IfSome read (λ found. IsTableRow found.0)) }
     ensures none { IfOk result (λ read. IfNone read ((row : KeyRow) (rest : List ℕ)
-        → IsRow row → from.now ≡ row_spelling row ++ rest → ⊥)) }
+        → IsTableRow row → from.now ≡ row_spelling row ++ rest → ⊥)) }
 {
     let Some((key, rest)) = split_field(from) else {
         return Ok(None);

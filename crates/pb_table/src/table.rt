@@ -1,7 +1,7 @@
-ghost use Rattle.std.specs.Prelude.{◌≡◌, ◌∷◌, All, IfNone, IfSome, IfOk};
-ghost use Rattle.pb_rows.specs.Layer.{KeyLayer, IsLayer, IsShort, layer_of};
+ghost use Rattle.std.specs.Prelude.{◌≡◌, ◌∷◌, All, IfNone, IfSome, IfOk, slice_index};
+ghost use Rattle.pb_rows.specs.Layer.{KeyLayer, IsLayer, layer_of, IsShortRow, IsFilled};
 ghost use Rattle.pb_table.specs.Spelling.{IsFormat, table_spelling};
-ghost use Rattle.pb_table.specs.Spells.{IsFilled, Spells};
+ghost use Rattle.pb_table.specs.Spells.{Spells};
 
 use super::rows::{put_rows, read_rows};
 use super::spans::{put_spans, read_spans};
@@ -10,7 +10,7 @@ use pb_rows::{Layer, Row, RowsError};
 use std::alloc::{AllocError, Global};
 
 /// The first byte of format 1.
-const FORMAT_1: u8 = 1;
+pub(crate) const FORMAT_1: u8 = 1;
 
 /// The format of new tables.
 pub const NEW_TABLE_FORMAT: u8 = FORMAT_1;
@@ -22,8 +22,20 @@ pub fn write_table(alloc: Global, layer: &Layer, format: u8) -> Result<Bytes, Al
     ensures ok { IfOk result (λ bytes. bytes ≡ table_spelling format layer.now) }
     ensures spells { IfOk result (λ bytes. Spells bytes layer.now) }
 {
+    match format {
+        FORMAT_1 => write_format_1(alloc, layer),
+        _ => unreachable!(),
+    }
+}
+
+// The bytes of a layer in format 1.
+fn write_format_1(alloc: Global, layer: &Layer) -> Result<Bytes, AllocError>
+    requires filled { IsFilled layer.now }
+    ensures ok { IfOk result (λ bytes. bytes ≡ table_spelling 1 layer.now) }
+    ensures spells { IfOk result (λ bytes. Spells bytes layer.now) }
+{
     let mut out = Vec::new(alloc);
-    out.push(format)?;
+    out.push(FORMAT_1)?;
     put_spans(alloc, &mut out, layer.dels())?;
     put_rows(alloc, &mut out, layer.rows())?;
     let bytes = Bytes::new(alloc, &out)?;
@@ -38,6 +50,9 @@ pub fn read_table(alloc: Global, bytes: &[u8]) -> Result<Option<Layer>, AllocErr
 
     // The same of a layer that the caller knows.
     ensures exact { IfOk result (λ read. (layer : KeyLayer) → Spells bytes.now layer → read ≡ Some layer) }
+
+    // Another first byte is told before anything is read.
+    ensures other { (IsFormat (slice_index bytes.now 0) → ⊥) → result ≡ Ok None }
 {
     match bytes {
         [FORMAT_1, rest @ ..] => read_format_1(alloc, rest),
@@ -65,7 +80,7 @@ fn read_format_1(alloc: Global, from: &[u8]) -> Result<Option<Layer>, AllocError
 
 // The layer of these spans and rows, if it is one and isn't empty.
 fn filled_layer(alloc: Global, dels: Vec<Span>, rows: Vec<Row>) -> Result<Option<Layer>, AllocError>
-    requires { All IsShort rows.items }
+    requires { All IsShortRow rows.items }
     ensures value { IfOk result (λ made. IfSome made (λ layer. layer ≡ layer_of dels.items rows.items)) }
     ensures in_form { IfOk result (λ made. IfSome made (λ layer. IsLayer layer)) }
     ensures filled { IfOk result (λ made. IfSome made (λ layer. IsFilled layer)) }

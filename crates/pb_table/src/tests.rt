@@ -1,9 +1,9 @@
 ghost use Rattle.std.specs.Prelude.{◌<◌, IfOk, All};
-ghost use Rattle.pb_rows.specs.Layer.{IsShort};
+ghost use Rattle.pb_rows.specs.Layer.{IsShortRow};
 
 use crate::{NEW_TABLE_FORMAT, read_table, write_table};
-use pb_keys::{Bytes, Key, Span};
-use pb_rows::{Layer, MAX_VALUE, Row};
+use pb_keys::{Bytes, Key, MAX_VALUE, Span};
+use pb_rows::{Layer, Row};
 use std::alloc::Global;
 use std::test::Fail;
 
@@ -24,8 +24,8 @@ fn value_of(alloc: Global, text: Option<&str>) -> Result<Option<Bytes>, Fail> {
 }
 
 fn add_short(rows: &mut Vec<Row>, row: Row) -> Result<(), Fail>
-    requires { All IsShort rows.old.items }
-    ensures { All IsShort rows.new.items }
+    requires { All IsShortRow rows.old.items }
+    ensures { All IsShortRow rows.new.items }
 {
     if row.is_short() {
         rows.push(row)?;
@@ -34,7 +34,7 @@ fn add_short(rows: &mut Vec<Row>, row: Row) -> Result<(), Fail>
 }
 
 fn rows_of(alloc: Global, texts: &[(&str, Option<&str>)]) -> Result<Vec<Row>, Fail>
-    ensures { IfOk result (λ rows. All IsShort rows.items) }
+    ensures { IfOk result (λ rows. All IsShortRow rows.items) }
 {
     let mut rows = Vec::new(alloc);
     for (key, text) in texts {

@@ -27,7 +27,7 @@ returns-clause-found c =
     let rows : ReadRows c.in-Some.rest.now c.in-Some-2.rows.items c.in-Some-2.rest.now =
     record { split = rw c.in-Some-2.is at c.in_ok-rows.ensures.found; in_form = rw c.in-Some-2.is at c.in_ok-rows.ensures.in_form; fits = omega arith } in
     found_layer c.args.from.now c.in-Some.dels.items c.in-Some.rest.now c.in-Some-2.rows.items c.in-Some-2.rest.now dels rows
-    (none_left c.in-Some-2.rest.now c.is_empty.result c.is_empty.ensures c.if-not-is_empty.false)
+    (none_left c.in-Some-2.rest.now c.is_empty.result c.is_empty.ensures c.if-not-is_empty.false) (omega arith)
     c.in_ok-layer.layer c.in_ok-layer.ensures.value c.in_ok-layer.ensures.in_form c.in_ok-layer.ensures.filled
 
 pub returns-clause-none : goal.returns-clause-none

@@ -5,7 +5,7 @@ use Rattle.std.specs.Option.{option_map}
 use Rattle.pb_payloads.specs.Log.{LogEntry, IsEntry, entry_spelling}
 use Rattle.pb_payloads.specs.Logged.{IsCommand}
 use Rattle.pb_payloads.proofs.LoggedLaws.{one_entry}
-use Rattle.pb_wal.specs.Changes.{IsShort, entry_of, logged_of}
+use Rattle.pb_wal.specs.Changes.{entry_of, logged_of, HasShortValue}
 use Rattle.pb_wal.specs.declared.entry.Change.{Change}
 use Rattle.pb_wal.specs.declared.entry.Change.TheVariants.{Set, Del, DelRange}
 use Rattle.pb_wal.specs.declared.entry.Entry.{Entry}
@@ -20,7 +20,7 @@ decoded from (Some e) entry spelled in_form none entry_is is_entry =
     ap Some (one_entry (entry_of e) entry in_form entry_is (sym spelled ∙ is_entry))
 
 -- what is decoded can be encoded
-pub short_of : (change : Change) → IsCommand (logged_of change) → IsShort change
+pub short_of : (change : Change) → IsCommand (logged_of change) → HasShortValue change
 short_of (Set key value) command = command.content.1
 short_of (Del key) command = tt
 short_of (DelRange span) command = tt

@@ -1,3 +1,4 @@
+pub mod Answered
 pub mod PartLemmas
 pub mod ContentLemmas
 pub mod DecodedLaws

@@ -1,24 +1,14 @@
 -- Counts and fields at the front of bytes, and what is behind them.
-use Rattle.std.proofs.Common.{◌≡◌, ℕ, ◌+◌, ◌^◌, ◌<◌, ◌≤◌, List, [], ◌++◌, length, take, drop, refl, sym, ap, ◌∙◌, arith, length-append, length-drop}
-use Rattle.std.proofs.lemmas.List.{take-append-drop, append-nil}
+use Rattle.std.proofs.Common.{◌≡◌, ℕ, ◌+◌, ◌^◌, ◌<◌, ◌≤◌, List, [], ◌∷◌, ◌++◌, length, false, refl, sym, ap, ◌∙◌, arith, length-append}
+use Rattle.std.specs.Prelude.{◌==◌}
+use Rattle.std.proofs.lemmas.List.{append-nil}
 use Rattle.pb_bytes.specs.Varint.{varint, field}
-use Rattle.pb_bytes.proofs.ReadingLemmas.{one_varint, one_field}
+use Rattle.pb_bytes.proofs.ReadingLemmas.{one_field}
 use Rattle.pb_bytes.proofs.VarintLemmas.{length-field}
-
--- bytes that begin with a spelling
-pub begun : (from spelling : List ℕ) (used : ℕ) → take used from ≡ spelling → from ≡ spelling ++ drop used from
-begun from spelling used spelled = sym (take-append-drop used from) ∙ ap (λ (front : List ℕ). front ++ drop used from) spelled
 
 -- what is whole is a front with nothing behind it
 pub whole : (from spelling : List ℕ) → from ≡ spelling → from ≡ spelling ++ []
 whole from spelling spelled = spelled ∙ sym (append-nil spelling)
-
--- bytes that begin with one count begin with no other
-pub high_count : (from : List ℕ) (count used other : ℕ) (rest : List ℕ) → count < 2 ^ 64 → 2 ^ 62 ≤ count → take used from ≡ varint count
-    → other < 2 ^ 62 → from ≡ varint other ++ rest → ⊥
-high_count from count used other rest fits high spelled low begins =
-    let same = one_varint count other _ _ fits (omega arith) (sym (begun from (varint count) used spelled) ∙ begins) in
-    omega (arith, same.0)
 
 -- a field is no longer than the bytes that it begins
 pub field_fits : (from content rest : List ℕ) → length from < 2 ^ 64 → from ≡ field content ++ rest → length content < 2 ^ 64
@@ -33,21 +23,6 @@ pub same_front : (from one other rest tail : List ℕ) → length from < 2 ^ 64 
 same_front from one other rest tail fits begins begins_too =
     one_field one other rest tail (field_fits from one rest fits begins) (field_fits from other tail fits begins_too) (sym begins ∙ begins_too)
 
--- a field with bytes behind it is no field
-pub more_behind : (from content other : List ℕ) (used : ℕ) → length from < 2 ^ 64 → take used from ≡ field content → used < length from
-    → from ≡ field other → ⊥
-more_behind from content other used fits spelled more is_other =
-    let same = same_front from content other (drop used from) [] fits (begun from (field content) used spelled) (whole from (field other) is_other) in
-    let len = ap length same.1 in
-    let left = length-drop used from in
-    omega arith
-
--- two fields are the first and what is behind it
-pub second_behind : (from first one two : List ℕ) (used : ℕ) → length from < 2 ^ 64 → take used from ≡ field first → from ≡ field one ++ field two
-    → drop used from ≡ field two
-second_behind from first one two used fits spelled both =
-    (same_front from first one (drop used from) (field two) fits (begun from (field first) used spelled) both).1
-
 -- bytes that are two fields are no other two
 pub same_two : (from a b c d : List ℕ) → length from < 2 ^ 64 → from ≡ field a ++ field b → from ≡ field c ++ field d → (a ≡ c) × (b ≡ d)
 same_two from a b c d fits one other =
@@ -59,3 +34,7 @@ same_two from a b c d fits one other =
 -- bytes that are a field are no other
 pub same_last : (from a b : List ℕ) → length from < 2 ^ 64 → from ≡ field a → from ≡ field b → a ≡ b
 same_last from a b fits one other = (same_front from a b [] [] fits (whole from (field a) one) (whole from (field b) other)).0
+
+pub some_left : (bytes : List ℕ) → false ≡ (length bytes == 0) → bytes ≡ [] → ⊥
+some_left [] is none = absurd (cc)
+some_left (byte ∷ bytes) is none = absurd (cc)

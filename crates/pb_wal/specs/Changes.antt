@@ -1,5 +1,6 @@
 -- What a command stands for: in the log, and for a map.
-use Rattle.std.specs.Prelude.{◌≤◌, length}
+use Rattle.std.specs.Prelude.{ℕ, ◌+◌, length}
+use Rattle.pb_keys.specs.Value.{IsValue}
 use Rattle.pb_payloads.specs.Log.{LogEntry}
 use Rattle.pb_payloads.specs.Logged.{Logged}
 use Rattle.pb_rows.specs.Changing.{Changing}
@@ -22,8 +23,19 @@ changing_of (DelRange span) = Changing.DelRange span
 abbrev pub entry_of : Entry → LogEntry
 entry_of entry = record { count = entry.count; command = logged_of entry.change }
 
--- a value has at most 65,536 bytes
-abbrev pub IsShort : Change → Type 0
-IsShort (Set key value) = length value ≤ 65536
-IsShort (Del key) = Unit {0}
-IsShort (DelRange span) = Unit {0}
+-- the lengths of a key and its value, or of a span's ends; 0 for what no log entry says
+abbrev pub length_of_changing : Changing → ℕ
+length_of_changing (Changing.Set key value) = length key + length value
+length_of_changing (Changing.Del key) = length key
+length_of_changing (Changing.DelRange span) = length span.lo + length span.hi
+length_of_changing (Changing.Excise span) = 0
+length_of_changing (Changing.Ingest layers) = 0
+length_of_changing (Changing.IngestExcise span layers) = 0
+length_of_changing (Changing.External view layer) = 0
+length_of_changing (Changing.Receive span sub) = 0
+
+-- its value, if it has one, is not too long
+abbrev pub HasShortValue : Change → Type 0
+HasShortValue (Set key value) = IsValue value
+HasShortValue (Del key) = Unit {0}
+HasShortValue (DelRange span) = Unit {0}

@@ -2,7 +2,7 @@ ghost use Rattle.std.specs.Prelude.{◌≡◌, ◌++◌, ◌∷◌, OnOk, OnErr,
 ghost use Rattle.pb_bytes.specs.Varint.{field};
 ghost use Rattle.pb_payloads.specs.Log.{entry_spelling};
 ghost use Rattle.pb_payloads.specs.Logged.{IsCommand, command_spelling};
-ghost use Rattle.pb_wal.specs.Changes.{IsShort, entry_of, logged_of};
+ghost use Rattle.pb_wal.specs.Changes.{entry_of, logged_of, HasShortValue};
 
 use crate::kinds::{DEL, DEL_RANGE, SET};
 use crate::{Change, Entry};
@@ -12,7 +12,7 @@ use std::alloc::{AllocError, Global};
 /// Appends the entry's spelling. Without memory a part of it may stand behind what `out` held.
 pub(crate) fn put_entry(alloc: Global, out: &mut Vec<u8>, entry: &Entry) -> Result<(), AllocError>
     ensures ok { OnOk result (out.new.items ≡ out.old.items ++ entry_spelling (entry_of entry.now)) }
-    ensures in_form { IsShort entry.now.change → OnOk result (IsCommand (logged_of entry.now.change)) }
+    ensures in_form { HasShortValue entry.now.change → OnOk result (IsCommand (logged_of entry.now.change)) }
     ensures err { OnErr result (take (length out.old.items) out.new.items ≡ out.old.items) }
 {
     put_varint(alloc, out, entry.count)?;
@@ -22,7 +22,7 @@ pub(crate) fn put_entry(alloc: Global, out: &mut Vec<u8>, entry: &Entry) -> Resu
 
 fn put_change(alloc: Global, out: &mut Vec<u8>, change: &Change) -> Result<(), AllocError>
     ensures ok { OnOk result (out.new.items ≡ out.old.items ++ command_spelling (logged_of change.now)) }
-    ensures in_form { IsShort change.now → OnOk result (IsCommand (logged_of change.now)) }
+    ensures in_form { HasShortValue change.now → OnOk result (IsCommand (logged_of change.now)) }
     ensures err { OnErr result (take (length out.old.items) out.new.items ≡ out.old.items) }
 {
     match change {

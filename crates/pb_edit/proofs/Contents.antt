@@ -2,7 +2,8 @@
 use Rattle.std.proofs.Common.{◌≡◌, ℕ, List, ◌∷◌, ◌++◌, Some, refl, ap, subst, ◌∙◌, append_assoc}
 use Rattle.pb_bytes.specs.Varint.{varint, field}
 use Rattle.pb_edit.specs.Edit.{DeletedItem, PhysicalItem, VirtualItem, CreatedItem}
-use Rattle.pb_edit.specs.Grammar.{deleted_content, physical_content, virtual_content, created_content, removed_content, IsNumber, IsDeleted, IsPhysical, IsVirtual, IsCreated}
+use Rattle.pb_edit.specs.Grammar.{deleted_content, physical_content, virtual_content, created_content, removed_content, IsDeleted, IsPhysical, IsVirtual, IsCreated}
+use Rattle.pb_bytes.specs.Number.{IsNumber}
 use Rattle.pb_edit.specs.Reading.{ItemKind, level_at, number_at, bytes_at, deleted_at, physical_at, virtual_at, created_at, deleted_kind, physical_kind, virtual_kind, created_kind, removed_kind}
 use Rattle.pb_edit.proofs.Parts.{bind_some, same_found, Splits, both_split, number_takes, number_again, bytes_takes, bytes_again, level_takes, level_again}
 

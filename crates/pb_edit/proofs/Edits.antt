@@ -5,7 +5,8 @@ use Rattle.std.proofs.lemmas.Bool.{eqb-true}
 use Rattle.std.proofs.lemmas.List.{append-nil, nil_from_length}
 use Rattle.std.proofs.lemmas.Option.{cond_some}
 use Rattle.pb_edit.specs.Edit.{VersionEdit}
-use Rattle.pb_edit.specs.Grammar.{number_item, items, deleted_content, physical_content, virtual_content, created_content, removed_content, numbers_spelling, lists_spelling, edit_spelling, IsNumber, IsDeleted, IsPhysical, IsVirtual, IsCreated, deleted_below, physical_below, virtual_below, created_below, AreItems, IsEdit}
+use Rattle.pb_edit.specs.Grammar.{number_item, items, deleted_content, physical_content, virtual_content, created_content, removed_content, numbers_spelling, lists_spelling, edit_spelling, IsDeleted, IsPhysical, IsVirtual, IsCreated, deleted_below, physical_below, virtual_below, created_below, AreItems, IsEdit}
+use Rattle.pb_bytes.specs.Number.{IsNumber}
 use Rattle.pb_edit.specs.Reading.{◌>>=◌, optional_at, all_at, deleted_kind, physical_kind, virtual_kind, created_kind, removed_kind, numbers_at, lists_at, edit_at}
 use Rattle.pb_edit.proofs.Parts.{bind_some, same_found, Splits, both_split}
 use Rattle.pb_edit.proofs.Contents.{deleted_reads, physical_reads, virtual_reads, created_reads, removed_reads}

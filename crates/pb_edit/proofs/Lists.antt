@@ -7,7 +7,8 @@ use Rattle.std.proofs.lemmas.Bool.{cases_Bool, eqb-true, eq-eqb, ne_eqb, leb-tru
 use Rattle.std.proofs.lemmas.Option.{cond_some}
 use Rattle.pb_bytes.specs.Varint.{varint}
 use Rattle.pb_edit.specs.declared.grammar.TheConstants.{LAST_KIND}
-use Rattle.pb_edit.specs.Grammar.{number_item, items, Ascend, AreItems, IsNumber}
+use Rattle.pb_edit.specs.Grammar.{number_item, items, Ascend, AreItems}
+use Rattle.pb_bytes.specs.Number.{IsNumber}
 use Rattle.pb_edit.specs.Reading.{◌>>=◌, ItemKind, begins, content_from, may_follow, content_behind, items_at, all_at, number_at, optional_at}
 use Rattle.pb_edit.proofs.Parts.{bind_some, same_found, Splits, both_split, number_takes, number_again}
 use Rattle.pb_edit.proofs.Contents.{ReadsContents}

@@ -7,7 +7,8 @@ use Rattle.pb_bytes.specs.Reading.{varint_at, if_within, field_at}
 use Rattle.pb_bytes.specs.Varint.{varint, field}
 use Rattle.pb_bytes.proofs.ReadingLemmas.{Begins-rest, varint_at-varint, varint_at-some, field_at-field, field_at-some}
 use Rattle.pb_edit.specs.declared.grammar.TheConstants.{LAST_LEVEL}
-use Rattle.pb_edit.specs.Grammar.{IsNumber, IsLevel, IsField}
+use Rattle.pb_edit.specs.Grammar.{IsLevel, IsField}
+use Rattle.pb_bytes.specs.Number.{IsNumber}
 use Rattle.pb_edit.specs.Reading.{◌>>=◌, number_at, bytes_at, level_at}
 
 -- a step that found something

@@ -1,6 +1,7 @@
 -- The grammar of edits: which there are, and the one spelling of each.
 use Rattle.std.specs.Prelude.{◌≡◌, ℕ, ◌<◌, ◌≤◌, ◌^◌, List, [], ◌∷◌, ◌++◌, length, Bool, ◌&&◌, ◌||◌, ◌==◌, nat_lt, IsTrue, Option, Some, None, IfSome}
 use Rattle.std.specs.List.{flat_map, AllByRecursion}
+use Rattle.pb_bytes.specs.Number.{IsNumber}
 use Rattle.pb_bytes.specs.Varint.{varint, field}
 use Rattle.pb_edit.specs.declared.grammar.TheConstants.{LAST_KIND, LAST_LEVEL}
 use Rattle.pb_edit.specs.Edit.{DeletedItem, PhysicalItem, VirtualItem, CreatedItem, VersionEdit}
@@ -46,10 +47,6 @@ unfoldable pub edit_spelling : VersionEdit → List ℕ
 edit_spelling e = numbers_spelling e ++ lists_spelling e
 
 -- ---- which edits there are
-
--- of numbers, ranks, sizes and counts
-abbrev pub IsNumber : ℕ → Type 0
-IsNumber n = n < 2 ^ 62
 
 abbrev pub IsLevel : ℕ → Type 0
 IsLevel level = level ≤ LAST_LEVEL

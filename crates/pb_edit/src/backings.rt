@@ -19,21 +19,19 @@ impl Model for Backings {
 }
 
 impl Backings {
-    /// Those of this vector, in order.
+    /// Takes the vector as it stands. In an edit these ascend (docs/FORMATS.md, "Edits"); nothing here checks it.
     pub fn from_vec(all: Vec<Created>) -> Backings
         ensures { result ≡ all.items }
     {
         Backings { all }
     }
 
-    /// All of them, in order.
     pub fn into_vec(self) -> Vec<Created>
         ensures { result.items ≡ self }
     {
         self.all
     }
 
-    /// All of them, in order.
     pub fn as_slice(&self) -> &[Created]
         ensures { result.now ≡ self.now }
     {

@@ -19,21 +19,19 @@ impl Model for Deletions {
 }
 
 impl Deletions {
-    /// Those of this vector, in order.
+    /// Takes the vector as it stands. In an edit these ascend (docs/FORMATS.md, "Edits"); nothing here checks it.
     pub fn from_vec(all: Vec<Deleted>) -> Deletions
         ensures { result ≡ all.items }
     {
         Deletions { all }
     }
 
-    /// All of them, in order.
     pub fn into_vec(self) -> Vec<Deleted>
         ensures { result.items ≡ self }
     {
         self.all
     }
 
-    /// All of them, in order.
     pub fn as_slice(&self) -> &[Deleted]
         ensures { result.now ≡ self.now }
     {

@@ -1,6 +1,3 @@
-/// Numbers, ranks, sizes and counts stand below this.
-pub const NUMBERS: u64 = 1 << 62;
-
 /// The last level that counts: bytes with a later one are no edit.
 pub const LAST_LEVEL: u8 = 0;
 

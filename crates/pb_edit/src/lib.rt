@@ -21,7 +21,7 @@ pub use created::Created;
 pub use deleted::Deleted;
 pub use deletions::Deletions;
 pub use edit::Edit;
-pub use grammar::{LAST_KIND, LAST_LEVEL, NUMBERS};
+pub use grammar::{LAST_KIND, LAST_LEVEL};
 pub use numbers::Numbers;
 pub use physical::Physical;
 pub use physicals::Physicals;

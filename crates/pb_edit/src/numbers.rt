@@ -23,21 +23,19 @@ impl Model for Numbers {
 }
 
 impl Numbers {
-    /// Those of this vector, in order.
+    /// Takes the vector as it stands. In an edit these ascend (docs/FORMATS.md, "Edits"); nothing here checks it.
     pub fn from_vec(all: Vec<u64>) -> Numbers
         ensures { result ≡ all.items }
     {
         Numbers { all }
     }
 
-    /// All of them, in order.
     pub fn into_vec(self) -> Vec<u64>
         ensures { result.items ≡ self }
     {
         self.all
     }
 
-    /// All of them, in order.
     pub fn as_slice(&self) -> &[u64]
         ensures { result.now ≡ self.now }
     {

@@ -19,21 +19,19 @@ impl Model for Physicals {
 }
 
 impl Physicals {
-    /// Those of this vector, in order.
+    /// Takes the vector as it stands. In an edit these ascend (docs/FORMATS.md, "Edits"); nothing here checks it.
     pub fn from_vec(all: Vec<Physical>) -> Physicals
         ensures { result ≡ all.items }
     {
         Physicals { all }
     }
 
-    /// All of them, in order.
     pub fn into_vec(self) -> Vec<Physical>
         ensures { result.items ≡ self }
     {
         self.all
     }
 
-    /// All of them, in order.
     pub fn as_slice(&self) -> &[Physical]
         ensures { result.now ≡ self.now }
     {

@@ -1,8 +1,8 @@
 ghost use Rattle.std.specs.Prelude.{◌≤◌, IfOk, length};
 ghost use Rattle.pb_edit.specs.Reading.{Gives, number_at, bytes_at, level_at, optional_at};
 
-use super::{LAST_LEVEL, NUMBERS};
-use pb_bytes::{read_field, read_varint};
+use super::LAST_LEVEL;
+use pb_bytes::{NUMBERS, read_field, read_varint};
 use pb_keys::Bytes;
 use std::alloc::{AllocError, AllocFailed, Global};
 

@@ -21,16 +21,26 @@ const EXCHANGE: [u8; 29] = [
 
 const CHANGED: [u8; 5] = [0, 1, 0x7f, 0x80, 0xff];
 
-#[test]
-fn the_first_edit_is_spelled_by_its_five_numbers(rt: HostRuntime) -> Result<(), Fail> {
-    let alloc = rt.alloc();
+// The first edit's spelling behind bytes that were there.
+fn first_spelled(alloc: Global) -> Result<Vec<u8>, AllocError> {
     let first = numbers_alone(alloc, 0, 64, 3);
     let mut out = Vec::from_slice(alloc, b"front")?;
     first.encode(alloc, &mut out)?;
+    Ok(out)
+}
+
+#[test]
+fn the_first_edit_is_spelled_by_its_five_numbers(rt: HostRuntime) -> Result<(), Fail> {
+    let out = first_spelled(rt.alloc())?;
     assert!(rt; out.len() == 15);
     assert!(rt; &out[..5] == b"front".as_slice());
     assert!(rt; &out[5..] == FIRST.as_slice());
-    let read = Edit::decode(alloc, &FIRST)?.ok_or("no edit")?;
+    Ok(())
+}
+
+#[test]
+fn five_numbers_are_read(rt: HostRuntime) -> Result<(), Fail> {
+    let read = Edit::decode(rt.alloc(), &FIRST)?.ok_or("no edit")?;
     assert_eq!(rt; read.accepted, Some(0));
     assert_eq!(rt; read.next, Some(64));
     assert_eq!(rt; read.log, Some(3));
@@ -62,29 +72,35 @@ fn numbers_alone(alloc: Global, accepted: u64, next: u64, log: u64) -> Edit
 }
 
 #[test]
-fn tables_go_and_come(rt: HostRuntime) -> Result<(), Fail> {
-    let alloc = rt.alloc();
-    let edit = Edit::decode(alloc, &EXCHANGE)?.ok_or("no edit")?;
+fn tables_go(rt: HostRuntime) -> Result<(), Fail> {
+    let edit = Edit::decode(rt.alloc(), &EXCHANGE)?.ok_or("no edit")?;
     assert!(rt; edit.accepted.is_none());
     assert_eq!(rt; edit.log, Some(128));
-    assert_eq!(rt; edit.virtuals.into_vec().len(), 0);
-    assert_eq!(rt; edit.created.into_vec().len(), 0);
-    assert_eq!(rt; edit.removed.into_vec().len(), 0);
-    let deleted = edit.deleted.into_vec();
+    let deleted = edit.deleted.as_slice();
     assert!(rt; deleted.len() == 2);
     let first = &deleted[0];
     let second = &deleted[1];
     assert_eq!(rt; first.number, 4);
     assert_eq!(rt; second.number, 5);
-    let physical = edit.physical.into_vec();
+    Ok(())
+}
+
+fn is_exchanged(table: &Physical) -> bool {
+    table.level == 0
+        && [table.number, table.rank, table.size] == [6, 6, 9]
+        && table.lo.as_slice() == b"a".as_slice()
+        && table.hi.as_slice() == b"bc".as_slice()
+}
+
+#[test]
+fn tables_come(rt: HostRuntime) -> Result<(), Fail> {
+    let edit = Edit::decode(rt.alloc(), &EXCHANGE)?.ok_or("no edit")?;
+    let physical = edit.physical.as_slice();
     assert!(rt; physical.len() == 2);
-    let table = &physical[0];
-    assert_eq!(rt; table.level, 0);
-    assert_eq!(rt; table.number, 6);
-    assert_eq!(rt; table.rank, 6);
-    assert_eq!(rt; table.size, 9);
-    assert!(rt; table.lo.as_slice() == b"a".as_slice());
-    assert!(rt; table.hi.as_slice() == b"bc".as_slice());
+    assert!(rt; is_exchanged(&physical[0]));
+    assert_eq!(rt; edit.virtuals.as_slice().len(), 0);
+    assert_eq!(rt; edit.created.as_slice().len(), 0);
+    assert_eq!(rt; edit.removed.as_slice().len(), 0);
     Ok(())
 }
 

@@ -19,21 +19,19 @@ impl Model for Virtuals {
 }
 
 impl Virtuals {
-    /// Those of this vector, in order.
+    /// Takes the vector as it stands. In an edit these ascend (docs/FORMATS.md, "Edits"); nothing here checks it.
     pub fn from_vec(all: Vec<Virtual>) -> Virtuals
         ensures { result ≡ all.items }
     {
         Virtuals { all }
     }
 
-    /// All of them, in order.
     pub fn into_vec(self) -> Vec<Virtual>
         ensures { result.items ≡ self }
     {
         self.all
     }
 
-    /// All of them, in order.
     pub fn as_slice(&self) -> &[Virtual]
         ensures { result.now ≡ self.now }
     {

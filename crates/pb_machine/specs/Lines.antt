@@ -7,7 +7,7 @@ use Rattle.pb_machine.specs.States.{FamilyState, with_store}
 use Rattle.pb_machine.specs.Marks.{Ran}
 use Rattle.pb_machine.specs.Stores.{opening_after, opening_reply, command_after, command_reply}
 
--- the other lines come later: they have no effect yet, and no reply
+-- the other lines come later: they have no reply yet, and of their commands `del`, `delrange` and `excise` alone have an effect
 abbrev pub line_after : FamilyState → Line → Ran → FamilyState
 line_after family (Open store) ran = with_store family store (opening_after (family.stores store) ran)
 line_after family (Whole store command) ran = with_store family store (command_after (family.stores store) command ran)

@@ -17,14 +17,12 @@ impl Model for Places {
 }
 
 impl Places {
-    /// These places, in this order.
     pub fn from_vec(places: Vec<usize>) -> Places
         ensures { result ≡ places.items }
     {
         Places { places }
     }
 
-    /// The places as a vector.
     pub fn into_vec(self) -> Vec<usize>
         ensures { result.items ≡ self }
     {
@@ -32,7 +30,6 @@ impl Places {
         places
     }
 
-    /// The places as a slice.
     pub fn as_slice(&self) -> &[usize]
         ensures { result.now ≡ self.now }
     {

@@ -3,7 +3,8 @@ use Rattle.std.proofs.Common.{◌≡◌, ℕ, List, [], ◌++◌, append_assoc}
 use Rattle.std.specs.Prelude.{codes}
 use Rattle.std.specs.Fmt.{decimal}
 use Rattle.pb_reply.specs.Listing.{Listing}
-use Rattle.pb_reply.specs.Printed.{kind_word, table_line, word}
+use Rattle.pb_reply.specs.Printed.{kind_word, table_line}
+use Rattle.pb_keys.specs.Printed.{word}
 
 pub parts-table_line : (table : Listing) (lo hi kind : List ℕ) → lo ≡ table.lo → hi ≡ table.hi → kind ≡ kind_word table.is_virtual
     → codes "L" ++ (decimal table.level ++ (codes " " ++ (decimal table.number ++ (codes " " ++ (word lo ++ (codes " " ++ (word hi

@@ -1,7 +1,7 @@
 -- The parts of a printed line.
 use Rattle.std.specs.Prelude.{ℕ, List}
 use Rattle.std.specs.Fmt.{decimal}
-use Rattle.pb_reply.specs.Printed.{word}
+use Rattle.pb_keys.specs.Printed.{word}
 use Rattle.pb_reply.specs.declared.pieces.Piece.{Piece}
 use Rattle.pb_reply.specs.declared.pieces.Piece.TheVariants.{Plain, Number, Word}
 

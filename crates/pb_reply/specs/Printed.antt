@@ -1,27 +1,14 @@
 -- What is printed for a reply.
-use Rattle.std.specs.Prelude.{ℕ, ◌/◌, ◌%◌, ◌==◌, Bool, ◌&&◌, not, if◌then◌else◌, nat_le, List, [], ◌∷◌, ◌++◌, length, codes}
-use Rattle.std.specs.Char.{digit_char}
+use Rattle.std.specs.Prelude.{ℕ, Bool, if◌then◌else◌, List, ◌++◌, length, codes}
 use Rattle.std.specs.Fmt.{decimal}
 use Rattle.std.specs.List.{flat_map}
+use Rattle.pb_keys.specs.Printed.{word}
 use Rattle.pb_reply.specs.Listing.{Listing}
 use Rattle.pb_reply.specs.Pair.{Pair}
 use Rattle.pb_reply.specs.Refusals.{carried, name_of, number_of}
 use Rattle.pb_reply.specs.declared.refusal.Refusal.{Refusal}
 use Rattle.pb_reply.specs.declared.reply.Reply.{Reply}
 use Rattle.pb_reply.specs.declared.reply.Reply.TheVariants.{Opened, Closed, Stopped, Accepted, Value, Absent, Rows, Done, Table, Exported, Lent, Dropped, Pinned, Unpinned, Started, Working, Released, Levels, Objects, Calls, Refused}
-
--- from 0x21 to 0x7E and not `%`
-abbrev pub is_plain : ℕ → Bool
-is_plain byte = nat_le 33 byte && nat_le byte 126 && not (byte == 37)
-
--- a plain byte as itself, another as `%` and two lower-case hexadecimal digits
-abbrev pub printed_byte : ℕ → List ℕ
-printed_byte byte = if is_plain byte then byte ∷ [] else 37 ∷ digit_char (byte / 16) ∷ digit_char (byte % 16) ∷ []
-
--- a byte string: byte by byte, and `%` for the empty string
-abbrev pub word : List ℕ → List ℕ
-word [] = codes "%"
-word (byte ∷ bytes) = flat_map printed_byte (byte ∷ bytes)
 
 abbrev pub line : List ℕ → List ℕ
 line text = text ++ codes "\n"

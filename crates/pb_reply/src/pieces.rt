@@ -2,7 +2,7 @@ ghost use Rattle.std.specs.Prelude.{◌≡◌, ◌<◌, ◌++◌, OnOk, OnErr, l
 ghost use Rattle.std.specs.Char.{digit_char};
 ghost use Rattle.std.specs.List.{flat_map};
 ghost use Rattle.pb_reply.specs.Pieces.{piece_text};
-ghost use Rattle.pb_reply.specs.Printed.{printed_byte, word};
+ghost use Rattle.pb_keys.specs.Printed.{printed_byte, word};
 
 use itoa::Buffer;
 use std::alloc::AllocError;

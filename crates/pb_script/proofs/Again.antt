@@ -11,7 +11,7 @@ use Rattle.std.proofs.lemmas.List.Sums.{list_all-from_AllPass}
 use Rattle.std.proofs.lemmas.Str.{digit_value-digit_char}
 use Rattle.pb_names.specs.Grammar.{IsName, IsNameByte}
 use Rattle.pb_names.specs.Identity.{IsStore}
-use Rattle.pb_reply.specs.Printed.{is_plain, printed_byte, word}
+use Rattle.pb_keys.specs.Printed.{is_plain, printed_byte, word}
 use Rattle.pb_script.specs.Answers.{◌>>=◌}
 use Rattle.pb_script.specs.Strings.{hex_pair, with_byte, bytes_of, string_of, name_of, store_of, level_of}
 use Rattle.pb_script.specs.Fields.{word_at, string_at, name_at, store_at, level_at, pair_at, labelled_at, names_of, some_names_of}

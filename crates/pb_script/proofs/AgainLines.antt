@@ -4,7 +4,7 @@ use Rattle.std.specs.Prelude.{codes}
 use Rattle.std.proofs.lemmas.Bool.{cond-true}
 use Rattle.pb_names.specs.Grammar.{IsName}
 use Rattle.pb_names.specs.Identity.{IsStore}
-use Rattle.pb_reply.specs.Printed.{word}
+use Rattle.pb_keys.specs.Printed.{word}
 use Rattle.pb_script.specs.Answers.{◌>>=◌}
 use Rattle.pb_script.specs.Fields.{word_at, behind, at_end}
 use Rattle.pb_script.specs.Commands.{set_of, del_of, del_range_of, get_of, scan_of, flush_of, compact_of, release_of, ingest_of, excise_of, ingest_excise_of, external_of, lend_of, receive_of, pin_of, sharing_named, tables_named, command_named, command_of}

@@ -6,7 +6,7 @@ use Rattle.std.proofs.lemmas.Bool.{cond-false}
 use Rattle.std.proofs.lemmas.Bool.Decides.{nat_tests}
 use Rattle.std.proofs.lemmas.List.{append-nil}
 use Rattle.pb_names.specs.Grammar.{IsName}
-use Rattle.pb_reply.specs.Printed.{word}
+use Rattle.pb_keys.specs.Printed.{word}
 use Rattle.pb_script.specs.Answers.{◌>>=◌}
 use Rattle.pb_script.specs.Texts.{texts_of}
 use Rattle.pb_script.specs.Lines.{line_of}

@@ -7,7 +7,7 @@ use Rattle.std.proofs.lemmas.Bool.{cond-true, cond-false}
 use Rattle.std.proofs.lemmas.List.{append-nil, length-drop}
 use Rattle.std.proofs.Math.Seq.{take-length}
 use Rattle.std.proofs.lemmas.Bool.Decides.{nat_tests}
-use Rattle.pb_reply.specs.Printed.{is_plain}
+use Rattle.pb_keys.specs.Printed.{is_plain}
 use Rattle.pb_script.specs.Answers.{Fails}
 use Rattle.pb_script.specs.declared.fault.WordFault.{WordFault}
 use Rattle.pb_script.specs.declared.fault.WordFault.TheVariants.{OffGrammar, NoMemory}

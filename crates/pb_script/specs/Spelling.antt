@@ -1,7 +1,7 @@
 -- One spelling of each line, as it could stand in a script.
 use Rattle.std.specs.Prelude.{ℕ, ◌+◌, List, [], ◌∷◌, ◌++◌, Option, Some, None, codes}
 use Rattle.std.specs.List.{flat_map, join_with_byte}
-use Rattle.pb_reply.specs.Printed.{word}
+use Rattle.pb_keys.specs.Printed.{word}
 use Rattle.pb_script.specs.declared.command.Command.{Command}
 use Rattle.pb_script.specs.declared.command.Command.TheVariants as command
 use Rattle.pb_script.specs.declared.line.Lane.{Lane}

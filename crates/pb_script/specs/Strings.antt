@@ -3,7 +3,7 @@ use Rattle.std.specs.Prelude.{ℕ, ◌+◌, ◌-◌, ◌*◌, Bool, ◌&&◌, �
 use Rattle.std.specs.Char.{digit_value}
 use Rattle.std.specs.List.{list_all}
 use Rattle.std.specs.Str.{bytes_eq}
-use Rattle.pb_reply.specs.Printed.{is_plain}
+use Rattle.pb_keys.specs.Printed.{is_plain}
 use Rattle.pb_script.specs.Answers.{◌>>=◌}
 
 -- two hexadecimal digits of either case

@@ -38,7 +38,7 @@ impl Model for ByteString {
 }
 
 impl ByteString {
-    /// A copy of these bytes.
+    /// Copies the bytes. Up to 14 of them take no memory.
     #[inline(always)]
     pub fn new(alloc: Global, from: &[u8]) -> Result<ByteString, AllocError>
         ensures ok { IfOk result (λ string. string ≡ from.now) }
@@ -54,7 +54,6 @@ impl ByteString {
         })
     }
 
-    /// The bytes, in order.
     pub fn as_slice(&self) -> &[u8]
         ensures { result.now ≡ self.now }
     {

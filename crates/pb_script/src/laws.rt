@@ -2,7 +2,7 @@
 ghost use Rattle.std.specs.Prelude.{◌≡◌, ◌↔◌, ℕ, List, Some, IsTrue};
 ghost use Rattle.std.specs.List.{AllByRecursion};
 ghost use Rattle.pb_names.specs.Grammar.{IsName};
-ghost use Rattle.pb_reply.specs.Printed.{word};
+ghost use Rattle.pb_keys.specs.Printed.{word};
 ghost use Rattle.pb_script.specs.declared.line.Line.{Line};
 ghost use Rattle.pb_script.specs.Form.{IsString, IsLine};
 ghost use Rattle.pb_script.specs.Script.{Lines, lines_of};

@@ -1,7 +1,7 @@
 ghost use Rattle.std.specs.Prelude.{◌≡◌, ◌<◌, ◌==◌, ◌&&◌, List, [], Option, None, Some, length, IsTrue, IfOk, IfErr, MatchOption, if◌then◌else◌};
 ghost use Rattle.std.specs.Char.{digit_value};
 ghost use Rattle.std.specs.List.{list_all};
-ghost use Rattle.pb_reply.specs.Printed.{is_plain};
+ghost use Rattle.pb_keys.specs.Printed.{is_plain};
 ghost use Rattle.pb_script.specs.Answers.{Fails, Gives};
 ghost use Rattle.pb_script.specs.Strings.{hex_pair, with_byte, bytes_of, string_of, name_of, store_of, level_of};
 

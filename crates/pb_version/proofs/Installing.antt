@@ -7,7 +7,8 @@ use Rattle.std.specs.Option.{unwrap_or}
 use Rattle.std.specs.Prelude.{not, nat_lt, nat_le, Option, Some, None, ◌&&◌, ◌||◌, ◌==◌, map}
 use Rattle.std.specs.List.{filter, list_any, list_all, AllByRecursion}
 use Rattle.pb_edit.specs.Edit.{DeletedItem, PhysicalItem, VirtualItem, CreatedItem, VersionEdit}
-use Rattle.pb_edit.specs.Grammar.{IsNumber, IsPhysical, IsCreated, created_below}
+use Rattle.pb_edit.specs.Grammar.{IsPhysical, IsCreated, created_below}
+use Rattle.pb_bytes.specs.Number.{IsNumber}
 use Rattle.pb_version.specs.declared.broken.Broken.{Broken}
 use Rattle.pb_version.specs.declared.broken.Broken.TheVariants.{V1, V2, V3, V4, V5, V6, V7, V8, V9}
 use Rattle.pb_version.specs.Version.{TableView, FiveNumbers, VersionView, all_tables, size_of}

@@ -4,11 +4,12 @@ use Rattle.std.proofs.lemmas.Bool.Decides.{nat_tests}
 use Rattle.std.specs.Prelude.{not, ◌==◌, ◌&&◌, ◌||◌, nat_lt}
 use Rattle.std.specs.List.{list_all, AllByRecursion}
 use Rattle.pb_keys.specs.Order.{is_below}
-use Rattle.pb_keys.specs.Span.{overlap}
+use Rattle.pb_keys.specs.Span.{overlap, is_span, is_end}
 use Rattle.pb_keys.proofs.OrderFacts.{below_one_way, below_chain, upto_below}
 use Rattle.pb_version.specs.Version.{TableView}
 use Rattle.pb_version.specs.Edited.{comes_before}
-use Rattle.pb_version.specs.Rules.{each_pair, are_apart, is_view, is_span, is_end, is_prefix, is_suffix, has_no_parts}
+use Rattle.pb_version.specs.Rules.{each_pair, are_apart, is_view, has_no_parts}
+use Rattle.pb_keys.specs.View.{is_prefix, is_suffix}
 use Rattle.pb_version.proofs.Lists.{left, right, same_number}
 use Rattle.pb_version.proofs.Commute.{Differ, AllDiffer, IsTransitive}
 

@@ -6,7 +6,8 @@ use Rattle.std.specs.Prelude.{not, ◌==◌, ◌&&◌, ◌||◌, nat_lt, nat_le,
 use Rattle.std.specs.List.{filter, list_any, list_all, AllByRecursion}
 use Rattle.std.specs.Option.{unwrap_or}
 use Rattle.pb_edit.specs.Edit.{PhysicalItem, VirtualItem, CreatedItem, VersionEdit}
-use Rattle.pb_edit.specs.Grammar.{IsNumber, IsPhysical, IsCreated, created_below, Ascend}
+use Rattle.pb_edit.specs.Grammar.{IsPhysical, IsCreated, created_below, Ascend}
+use Rattle.pb_bytes.specs.Number.{IsNumber}
 use Rattle.pb_version.specs.Version.{TableView, FiveNumbers, size_of}
 use Rattle.pb_version.specs.Edited.{placed, all_placed, physical_table, virtual_table, tables_of, five_after}
 use Rattle.pb_version.specs.Rules.{has_backing}

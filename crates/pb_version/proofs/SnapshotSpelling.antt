@@ -5,17 +5,20 @@ use Rattle.std.specs.Prelude.{not, ◌==◌, ◌&&◌, ◌||◌, nat_lt, nat_le,
 use Rattle.std.specs.List.{filter, list_all, AllByRecursion}
 use Rattle.pb_edit.specs.declared.grammar.TheConstants.{LAST_KIND}
 use Rattle.pb_edit.specs.Edit.{CreatedItem, VersionEdit}
-use Rattle.pb_edit.specs.Grammar.{IsNumber, IsField, IsPhysical, IsVirtual, IsCreated, Ascend, IsEdit, physical_below, virtual_below, created_below, edit_spelling}
+use Rattle.pb_edit.specs.Grammar.{IsField, IsPhysical, IsVirtual, IsCreated, Ascend, IsEdit, physical_below, virtual_below, created_below, edit_spelling}
+use Rattle.pb_bytes.specs.Number.{IsNumber}
 use Rattle.pb_version.specs.Version.{TableView, FiveNumbers, VersionView, all_tables}
 use Rattle.pb_version.specs.Edited.{all_placed}
-use Rattle.pb_version.specs.Rules.{each_pair, has_backing, has_its_backing, is_view, is_span, is_end, is_plain, is_prefix, is_suffix, has_no_parts}
+use Rattle.pb_version.specs.Rules.{each_pair, has_backing, has_its_backing, is_view, has_no_parts}
+use Rattle.pb_keys.specs.View.{is_prefix, is_suffix}
+use Rattle.pb_keys.specs.Span.{is_span, is_end, has_no_at}
 use Rattle.pb_version.specs.State.{IsVersion, IsSpellable, other_number, is_below_next}
 use Rattle.pb_version.specs.LevelZero.{flat}
 use Rattle.pb_version.specs.Snapshot.{physical_item, virtual_item, physical_items, virtual_items, snapshot_of}
 use Rattle.pb_version.proofs.Lists.{left, right, same_number}
 use Rattle.pb_version.proofs.Flat.{of_backing}
 use Rattle.pb_version.proofs.Pairs.{filter_keeps, pairs_filter}
-use Rattle.pb_version.proofs.Forms.{of_three}
+use Rattle.pb_keys.proofs.Forms.{of_three}
 use Rattle.pb_version.proofs.Commute.{Differ, AllDiffer, IsTransitive, each_filter, each_all_placed, sorted_all_placed}
 use Rattle.pb_version.proofs.Spelling.{at_each}
 use Rattle.pb_version.proofs.SnapshotRules.{flat_again}
@@ -32,7 +35,7 @@ short : (some plain : Bool) (n : ℕ) → (some && nat_le n 1025 && plain) ≡ t
 short some plain n e = let within : nat_le n 1025 ≡ true = right some (nat_le n 1025) (left (some && nat_le n 1025) plain e) in grind (arith, nat_tests)
 
 end_field : (bytes : List ℕ) → is_end bytes ≡ true → IsField bytes
-end_field bytes e = omega (arith, short (nat_le 1 (length bytes)) (is_plain bytes) (length bytes) e)
+end_field bytes e = omega (arith, short (nat_le 1 (length bytes)) (has_no_at bytes) (length bytes) e)
 
 no_field : (bytes : List ℕ) → (length bytes == 0) ≡ true → IsField bytes
 no_field bytes e = omega (arith, same_number (length bytes) 0 e)

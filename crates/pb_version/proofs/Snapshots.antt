@@ -7,7 +7,9 @@ use Rattle.pb_edit.specs.Edit.{CreatedItem}
 use Rattle.pb_edit.specs.Grammar.{physical_below, virtual_below}
 use Rattle.pb_version.specs.Version.{TableView, size_of}
 use Rattle.pb_version.specs.Edited.{comes_before, all_placed, physical_table, virtual_table, tables_of}
-use Rattle.pb_version.specs.Rules.{each_pair, are_apart, is_view, is_span, is_prefix, is_suffix, has_no_parts}
+use Rattle.pb_version.specs.Rules.{each_pair, are_apart, is_view, has_no_parts}
+use Rattle.pb_keys.specs.View.{is_prefix, is_suffix}
+use Rattle.pb_keys.specs.Span.{is_span}
 use Rattle.pb_version.specs.State.{is_formed}
 use Rattle.pb_version.specs.Snapshot.{physical_item, virtual_item, physical_items, virtual_items}
 use Rattle.pb_version.proofs.Lists.{left, right, same_number}

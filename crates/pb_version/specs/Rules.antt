@@ -2,10 +2,8 @@
 use Rattle.std.specs.Prelude.{ℕ, List, [], ◌∷◌, ◌++◌, map, length, Bool, true, not, ◌&&◌, ◌||◌, ◌==◌, nat_lt, nat_le, if◌then◌else◌, Option, Some, None, is_some}
 use Rattle.std.specs.List.{list_any, list_all}
 use Rattle.pb_edit.specs.Edit.{CreatedItem, VersionEdit}
-use Rattle.pb_keys.specs.Order.{is_below}
-use Rattle.pb_keys.specs.Key.{at_sign}
-use Rattle.pb_keys.specs.Span.{KeySpan, overlap}
-use Rattle.pb_keys.specs.View.{KeyView}
+use Rattle.pb_keys.specs.Span.{overlap, is_span}
+use Rattle.pb_keys.specs.View.{KeyView, is_prefix, is_suffix}
 use Rattle.pb_version.specs.declared.broken.Broken.{Broken}
 use Rattle.pb_version.specs.declared.broken.Broken.TheVariants.{V1, V2, V3, V4, V5, V6, V7, V8, V9}
 use Rattle.pb_version.specs.Version.{TableView, FiveNumbers, VersionView, tables_of_level, all_tables}
@@ -54,25 +52,6 @@ keeps_v2 old edit =
     && list_all (is_reserved old edit) (new_ranks edit)
 
 -- ---- V3: a new table's ends are a span, and its prefix and suffix have their form, which is none yet
-
-abbrev pub is_plain : List ℕ → Bool
-is_plain bytes = not (list_any (λ b. b == at_sign) bytes)
-
--- 1 to 1,025 bytes without '@'
-abbrev pub is_end : List ℕ → Bool
-is_end bytes = nat_le 1 (length bytes) && nat_le (length bytes) 1025 && is_plain bytes
-
-abbrev pub is_span : KeySpan → Bool
-is_span span = is_end span.lo && is_end span.hi && is_below span.lo span.hi
-
--- at most 1,024 bytes without '@'
-abbrev pub is_prefix : List ℕ → Bool
-is_prefix bytes = nat_le (length bytes) 1024 && is_plain bytes
-
--- none, or at most 1,024 bytes of which the first is '@'
-abbrev pub is_suffix : List ℕ → Bool
-is_suffix [] = true
-is_suffix (b ∷ bs) = b == at_sign && nat_le (length (b ∷ bs)) 1024
 
 -- what a later format takes away
 abbrev pub has_no_parts : KeyView → Bool

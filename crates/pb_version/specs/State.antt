@@ -4,7 +4,8 @@ use Rattle.std.specs.List.{list_all, AllByRecursion}
 use Rattle.std.specs.Option.{unwrap_or}
 use Rattle.pb_edit.specs.declared.grammar.TheConstants.{LAST_LEVEL}
 use Rattle.pb_edit.specs.Edit.{DeletedItem, CreatedItem, VersionEdit}
-use Rattle.pb_edit.specs.Grammar.{IsNumber, IsPhysical, IsVirtual, IsCreated, Ascend, created_below}
+use Rattle.pb_edit.specs.Grammar.{IsPhysical, IsVirtual, IsCreated, Ascend, created_below}
+use Rattle.pb_bytes.specs.Number.{IsNumber}
 use Rattle.pb_version.specs.declared.broken.Broken.{Broken}
 use Rattle.pb_version.specs.declared.broken.Broken.TheVariants.{NoMemory}
 use Rattle.pb_version.specs.Version.{TableView, FiveNumbers, VersionView, all_tables, size_of}

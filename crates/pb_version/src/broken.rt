@@ -17,6 +17,7 @@ pub enum Broken {
     V6,
     #[error("a removed backing wasn't there, or a backing has no virtual table after the edit")]
     V7,
+    /// Of the five the number of the log may fall.
     #[error("one of the five numbers falls, doesn't fit the others, or is missing in the first edit")]
     V8,
     #[error("more than 4,096 tables stand after the edit")]

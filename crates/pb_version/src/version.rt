@@ -156,7 +156,7 @@ impl Version {
         Ok(edit)
     }
 
-    /// Another value of the same version.
+    /// Copies all tables and backings, where an edit moves them: it takes longer than an edit (bench/README.md).
     pub fn copy(&self, alloc: Global) -> Result<Version, AllocError>
         ensures ok { IfOk result (λ copy. copy ≡ self.now) }
     {

@@ -1,12 +1,13 @@
 ghost use Rattle.std.specs.Prelude.{◌≡◌, IsTrue, IfSome, All};
 ghost use Rattle.pb_edit.specs.Edit.{VersionEdit};
-ghost use Rattle.pb_edit.specs.Grammar.{IsNumber, IsPhysical, IsVirtual, IsCreated, Ascend, created_below};
+ghost use Rattle.pb_edit.specs.Grammar.{IsPhysical, IsVirtual, IsCreated, Ascend, created_below};
+ghost use Rattle.pb_bytes.specs.Number.{IsNumber};
 ghost use Rattle.pb_version.specs.State.{IsSpellable};
 
 use super::*;
+use pb_bytes::NUMBERS;
 use pb_edit::{
-    Backings, Deleted, Deletions, LAST_LEVEL, NUMBERS, Numbers, Physical, Physicals, Virtual,
-    Virtuals,
+    Backings, Deleted, Deletions, LAST_LEVEL, Numbers, Physical, Physicals, Virtual, Virtuals,
 };
 use pb_keys::Bytes;
 use std::test::Fail;

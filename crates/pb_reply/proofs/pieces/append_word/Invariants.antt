@@ -1,6 +1,6 @@
 use Rattle.std.proofs.Common.{◌≡◌, ◌++◌, take}
 use Rattle.std.specs.List.{flat_map}
-use Rattle.pb_reply.specs.Printed.{printed_byte}
+use Rattle.pb_keys.specs.Printed.{printed_byte}
 use Rattle.pb_reply.proofs.pieces.append_word.Given as goal
 
 abbrev pub invariant-loop-byte : goal.invariant-loop-byte

@@ -19,7 +19,7 @@ use Rattle.pb_payloads.proofs.CataloguedLaws as catalogued
 use Rattle.pb_payloads.proofs.LoggedLaws as logged
 use Rattle.pb_gate_log.specs.Payloads.{payloads, payloads_of}
 use Rattle.pb_edit.specs.Grammar.{AreItems, IsEdit, edit_spelling}
-use Rattle.pb_rows.specs.Layer.{KeyRow, KeyLayer, IsLayer, IsShort, layer_of}
+use Rattle.pb_rows.specs.Layer.{KeyRow, KeyLayer, IsLayer, layer_of, IsShortRow}
 use Rattle.pb_rows.specs.Applied.{applied, without_all}
 use Rattle.pb_rows.specs.Viewed.{viewed, mapped_key}
 use Rattle.pb_keys.specs.Span.{IsSpan, holds_key}
@@ -224,14 +224,15 @@ is_layer_of_a = record {
   apart = λ k d within. absurd (omega (arith, within));
   keys = All-cons (λ row. IsKey row.key) row_of_a [] a_is_key (All-nil (λ row. IsKey row.key));
   rise = λ k d within. absurd (omega (arith, within));
-  short = All-cons IsShort row_of_a [] (omega arith) (All-nil IsShort);
+  short = All-cons IsShortRow row_of_a [] (omega arith) (All-nil IsShortRow);
 }
 
 spells_a : Spells table_of_a layer_of_a
 unfolding table_spelling format_1 varint groups field layer_of_a row_of_a
 spells_a = record {
   format = refl;
-  of = record { in_form = is_layer_of_a; filled = omega arith; dels = omega arith; rows = omega arith };
+  of = record { in_form = is_layer_of_a; filled = omega arith };
+  fits = omega arith;
   same = refl;
 }
 

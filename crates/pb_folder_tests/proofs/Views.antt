@@ -7,17 +7,15 @@ use Rattle.std.proofs.lemmas.Bool.{false≢true}
 use Rattle.pb_keys.specs.Key.{IsKey}
 use Rattle.pb_keys.specs.Span.{KeySpan, IsSpan, holds_key}
 use Rattle.pb_keys.specs.View.{KeyView}
-use Rattle.pb_rangedel.specs.Spans.{cut_to}
+use Rattle.pb_rows.specs.Viewed.{cut_to, MapsWithin, mapped_key, mapped_row, mapped_span, viewed}
 use Rattle.pb_rows.specs.Layer.{KeyRow, KeyLayer, layer_of}
-use Rattle.pb_rows.specs.Viewed.{MapsWithin, mapped_key, mapped_row, mapped_span, part_within, viewed}
 use Rattle.pb_folder_tests.specs.Shown.{are_own_keys}
-use Rattle.pb_folder_tests.proofs.Lists.{flat_map-map}
 
 pub viewed_is : (view : KeyView) (layer shown : KeyLayer) (dels : List KeySpan) (rows : List KeyRow) → dels ≡ map (mapped_span view) layer.dels → rows ≡ map (mapped_row view) layer.rows
     → shown.dels ≡ cut_to view.bounds dels → shown.rows ≡ filter (λ row. holds_key view.bounds row.key) rows → shown ≡ viewed view layer
 unfolding viewed
 viewed_is view layer shown dels rows mapped_dels mapped_rows cut held =
-    let shown_dels = cut ∙ ap (cut_to view.bounds) mapped_dels ∙ flat_map-map (part_within view.bounds) (mapped_span view) layer.dels in
+    let shown_dels = cut ∙ ap (cut_to view.bounds) mapped_dels in
     let shown_rows = held ∙ ap (filter (λ (row : KeyRow). holds_key view.bounds row.key)) mapped_rows in
     λ i. layer_of (shown_dels i) (shown_rows i)
 

@@ -3,8 +3,7 @@ ghost use Rattle.pb_bytes.specs.Varint.{varint};
 ghost use Rattle.pb_payloads.specs.Current.{Pointer, IsPointer, SaysCurrent, pointer_spelling};
 ghost use Rattle.pb_folder_tests.specs.Said.{pointer_to};
 
-use pb_bytes::read_varint;
-use pb_edit::NUMBERS;
+use pb_bytes::{NUMBERS, read_varint};
 use pb_keys::Bytes;
 
 /// What the last of some payloads names: the numbers of a manifest and of a catalogue. None exactly where it names none.

@@ -4,8 +4,7 @@ ghost use Rattle.std.specs.List.{filter, list_any};
 ghost use Rattle.pb_folder_tests.specs.Shown.{are_own_keys};
 ghost use Rattle.pb_keys.specs.Key.{IsKey};
 ghost use Rattle.pb_keys.specs.Span.{IsSpan, holds_key};
-ghost use Rattle.pb_rangedel.specs.Spans.{cut_to};
-ghost use Rattle.pb_rows.specs.Viewed.{MapsWithin, mapped_key, mapped_row, mapped_span, viewed, with_suffix};
+ghost use Rattle.pb_rows.specs.Viewed.{cut_to, MapsWithin, mapped_key, mapped_row, mapped_span, viewed, with_suffix};
 
 use pb_keys::{Bytes, Key, KeyError, Span, SpanError, View};
 use pb_rangedel::cut;

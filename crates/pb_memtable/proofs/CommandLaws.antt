@@ -11,7 +11,7 @@ use Rattle.pb_keys.specs.Span.{KeySpan, holds_key}
 use Rattle.pb_keys.proofs.MapFacts.{same_pairs, get-without}
 use Rattle.pb_memtable.specs.Commands.{after_all, row_of, layer_of_change, with_commands, layer_of_commands, length_of, size_of}
 use Rattle.pb_rangedel.specs.Merging.{uncovered}
-use Rattle.pb_rangedel.proofs.LayerLaws.{applied-over}
+use Rattle.pb_rows.proofs.LayeringLaws.{applied-over}
 use Rattle.pb_rows.specs.Applied.{applied}
 use Rattle.pb_rows.specs.Changing.{after}
 use Rattle.pb_rows.specs.Layer.{KeyRow, KeyLayer, layer_of}

@@ -7,7 +7,7 @@ use Rattle.std.specs.declared.cmp.Ordering.TheVariants.{Less}
 use Rattle.std.proofs.lemmas.Bool.{cases_lt}
 use Rattle.std.proofs.lemmas.List.{get_or_default}
 use Rattle.std.proofs.lemmas.List.Folds.{list_any_none, list_any_at}
-use Rattle.pb_rangedel.proofs.Bits.{not_so}
+use Rattle.pb_rows.proofs.Tests.{not_so}
 use Rattle.pb_memtable.proofs.Bits.{so_not}
 use Rattle.pb_keys.specs.Key.{prefix_of, key_cmp}
 use Rattle.pb_keys.specs.Order.{is_below}

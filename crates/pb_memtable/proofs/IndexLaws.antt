@@ -9,12 +9,12 @@ use Rattle.pb_memtable.specs.Index.{IsIndex}
 use Rattle.pb_memtable.specs.Search.{no_entry, change_at, rows_at, IsRow, IsRowPlace}
 use Rattle.pb_memtable.proofs.CommandLaws.{commands-push, over-row, over-span}
 use Rattle.pb_rangedel.specs.Merging.{uncovered}
-use Rattle.pb_rangedel.proofs.NormalSpans.{normal_from_apart, spans_from_normal, apart_from_normal, normal-union_of}
-use Rattle.pb_rangedel.proofs.RowMerging.{rising_from_rise, rise_from_rising, rising-with_row, rising-filter}
+use Rattle.pb_rows.proofs.NormalSpans.{normal_from_apart, spans_from_normal, apart_from_normal, normal-union_of}
+use Rattle.pb_rows.proofs.RowsOver.{rising_from_rise, rise_from_rising, rising-with_row, rising-filter}
 use Rattle.pb_rows.specs.Layer.{KeyRow, KeyLayer, AreApart, Rise, layer_of}
 use Rattle.pb_rows.specs.Over.{over, with_row, with_span}
 use Rattle.pb_rows.specs.Verdict.{is_covered}
-use Rattle.pb_wal.specs.Changes.{IsShort}
+use Rattle.pb_wal.specs.Changes.{HasShortValue}
 use Rattle.pb_wal.specs.declared.entry.Change.{Change}
 use Rattle.pb_wal.specs.declared.entry.Change.TheVariants.{Set, Del, DelRange}
 use Rattle.pb_wal.specs.declared.entry.Entry.{Entry}
@@ -50,7 +50,7 @@ row_layer (Set key value) is = refl
 row_layer (Del key) is = refl
 row_layer (DelRange span) is = absurd is
 
-pub indexed_row : (entries : List Entry) (places later : List ℕ) (dels : List KeySpan) (entry : Entry) → IsIndex entries places dels → IsRow entry.change → IsShort entry.change → All (IsRowPlace (entries ++ entry ∷ [])) later → rows_at (entries ++ entry ∷ []) later ≡ with_row (row_of entry.change) (rows_at entries places) → IsIndex (entries ++ entry ∷ []) later dels
+pub indexed_row : (entries : List Entry) (places later : List ℕ) (dels : List KeySpan) (entry : Entry) → IsIndex entries places dels → IsRow entry.change → HasShortValue entry.change → All (IsRowPlace (entries ++ entry ∷ [])) later → rows_at (entries ++ entry ∷ []) later ≡ with_row (row_of entry.change) (rows_at entries places) → IsIndex (entries ++ entry ∷ []) later dels
 indexed_row entries places later dels entry index is short are rows =
     let layer : layer_of_commands (entries ++ entry ∷ []) ≡ layer_of (layer_of_commands entries).dels (with_row (row_of entry.change) (layer_of_commands entries).rows) =
     commands-push entries entry ∙ ap (λ l. over l (layer_of_commands entries)) (row_layer entry.change is) ∙ over-row (row_of entry.change) (layer_of_commands entries) in
@@ -61,7 +61,7 @@ indexed_row entries places later dels entry index is short are rows =
       dels = index.dels ∙ sym (ap (λ (l : KeyLayer). l.dels) layer);
       in_form = index.in_form;
       apart = index.apart;
-      short = All-push (λ (e : Entry). IsShort e.change) entries entry index.short short;
+      short = All-push (λ (e : Entry). HasShortValue e.change) entries entry index.short short;
     }
 
 -- ---- with a deletion
@@ -69,7 +69,7 @@ indexed_row entries places later dels entry index is short are rows =
 one_span : (span : KeySpan) → IsSpan span → All IsSpan (span ∷ [])
 one_span span is = All-push IsSpan [] span (All-nil IsSpan) is
 
-pub indexed_span : (entries : List Entry) (places later : List ℕ) (dels spans : List KeySpan) (entry : Entry) (span : KeySpan) → IsIndex entries places dels → entry.change ≡ DelRange span → IsShort entry.change → IsSpan span → All (IsRowPlace entries) later → rows_at entries later ≡ uncovered (span ∷ []) (rows_at entries places) → spans ≡ with_span span dels → IsIndex (entries ++ entry ∷ []) later spans
+pub indexed_span : (entries : List Entry) (places later : List ℕ) (dels spans : List KeySpan) (entry : Entry) (span : KeySpan) → IsIndex entries places dels → entry.change ≡ DelRange span → HasShortValue entry.change → IsSpan span → All (IsRowPlace entries) later → rows_at entries later ≡ uncovered (span ∷ []) (rows_at entries places) → spans ≡ with_span span dels → IsIndex (entries ++ entry ∷ []) later spans
 indexed_span entries places later dels spans entry span index is_range short is are rows joined =
     let layer : layer_of_commands (entries ++ entry ∷ []) ≡ layer_of (with_span span (layer_of_commands entries).dels) (uncovered (span ∷ []) (layer_of_commands entries).rows) =
     commands-push entries entry ∙ ap (λ change. over (layer_of_change change) (layer_of_commands entries)) is_range ∙ over-span span (layer_of_commands entries) in
@@ -82,7 +82,7 @@ indexed_span entries places later dels spans entry span index is_range short is 
       dels = joined ∙ ap (with_span span) index.dels ∙ sym (ap (λ (l : KeyLayer). l.dels) layer);
       in_form = subst (All IsSpan) (sym joined) (spans_from_normal (with_span span dels) normal);
       apart = subst AreApart (sym joined) (apart_from_normal (with_span span dels) normal);
-      short = All-push (λ (e : Entry). IsShort e.change) entries entry index.short short;
+      short = All-push (λ (e : Entry). HasShortValue e.change) entries entry index.short short;
     }
 
 pub no_index : IsIndex [] [] []
@@ -93,5 +93,5 @@ no_index = record {
   dels = refl;
   in_form = All-nil IsSpan;
   apart = λ k d h. absurd (omega arith);
-  short = All-nil (λ (e : Entry). IsShort e.change);
+  short = All-nil (λ (e : Entry). HasShortValue e.change);
 }

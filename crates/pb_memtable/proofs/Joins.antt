@@ -7,14 +7,14 @@ use Rattle.std.proofs.lemmas.Bool.{cases_lt}
 use Rattle.std.proofs.lemmas.List.{get_or-drop, get_or-take, length-take-le, length-drop, get_or_default}
 use Rattle.std.proofs.lemmas.List.Edits.{split_between, get_or-between, length-between}
 use Rattle.std.proofs.lemmas.List.Elements.{All-head, All-tail}
-use Rattle.pb_rangedel.proofs.Bits.{not_so}
+use Rattle.pb_rows.proofs.Tests.{not_so}
 use Rattle.pb_memtable.proofs.Bits.{so_not}
-use Rattle.pb_keys.specs.Order.{is_below}
-use Rattle.pb_keys.specs.Span.{KeySpan, IsSpan}
+use Rattle.pb_keys.specs.Order.{is_below, lesser, greater}
+use Rattle.pb_keys.specs.Span.{KeySpan, IsSpan, joined}
 use Rattle.pb_keys.proofs.OrderFacts.{below_itself, below_one_way, below_chain, upto_chain}
 use Rattle.pb_memtable.specs.Joining.{IsTouched, Touch}
 use Rattle.pb_rows.specs.Layer.{AreApart}
-use Rattle.pb_rows.specs.Over.{joined, lesser, greater, with_span}
+use Rattle.pb_rows.specs.Over.{with_span}
 use Rattle.pb_rows.proofs.LookLaws.{spans_follow, spans_apart}
 
 -- the span, as one with each of these

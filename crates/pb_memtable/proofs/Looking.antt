@@ -6,10 +6,10 @@ use Rattle.pb_memtable.specs.Commands.{row_of}
 use Rattle.pb_memtable.specs.Search.{IsPlaceOf, IsRowPlace, change_at, no_entry, rows_at}
 use Rattle.pb_memtable.proofs.SearchLaws.{row_at_place, length-rows_at}
 use Rattle.pb_rows.specs.Layer.{KeyRow, Rise}
-use Rattle.pb_rows.specs.Layer.{IsShort as IsShortRow}
+use Rattle.pb_rows.specs.Layer.{IsShortRow}
 use Rattle.pb_rows.specs.Verdict.{row_verdict}
 use Rattle.pb_rows.proofs.LookLaws.{row_found, row_missing}
-use Rattle.pb_wal.specs.Changes.{IsShort}
+use Rattle.pb_wal.specs.Changes.{HasShortValue}
 use Rattle.pb_wal.specs.declared.entry.Change.{Change}
 use Rattle.pb_wal.specs.declared.entry.Change.TheVariants.{Set, Del, DelRange}
 use Rattle.pb_wal.specs.declared.entry.Entry.{Entry}
@@ -28,12 +28,12 @@ missing_row entries places key at rise place other =
     let within : at < length places = omega (arith, length-rows_at entries places) in
     other within (sym (ap (λ (r : KeyRow). r.key) (row_at_place entries places at d within)) ∙ same)))
 
-row_short : (change : Change) → IsShort change → IsShortRow (row_of change)
+row_short : (change : Change) → HasShortValue change → IsShortRow (row_of change)
 row_short (Set key value) short = short
 row_short (Del key) short = tt
 row_short (DelRange span) short = tt
 
-pub rows_short : (entries : List Entry) (places : List ℕ) → All (λ entry. IsShort entry.change) entries → All (IsRowPlace entries) places → All IsShortRow (rows_at entries places)
+pub rows_short : (entries : List Entry) (places : List ℕ) → All (λ entry. HasShortValue entry.change) entries → All (IsRowPlace entries) places → All IsShortRow (rows_at entries places)
 rows_short entries [] short are = All-nil IsShortRow
 rows_short entries (place ∷ places) short are =
     All-cons IsShortRow (row_of (change_at entries place)) (rows_at entries places) (row_short (change_at entries place) (short place no_entry (All-head (IsRowPlace entries) place places are).within))

@@ -11,7 +11,7 @@ use Rattle.std.proofs.lemmas.Bool.{cases_lt}
 use Rattle.std.proofs.lemmas.List.{map-append, take-map, drop-map, map-set, set_split, take-append-drop, drop_more, get_or-drop, get_or-take, length-take-le, length-drop, drop_all}
 use Rattle.std.proofs.lemmas.List.Edits.{split_between, get_or-between, length-between}
 use Rattle.std.proofs.lemmas.List.Elements.{All-cons, All-head, All-tail, All-weaker, All-append, All-take, All-drop, All-set, filter-append}
-use Rattle.pb_rangedel.proofs.Bits.{or_false}
+use Rattle.pb_rows.proofs.Tests.{or_false}
 use Rattle.pb_keys.specs.Key.{key_cmp, prefix_of, suffix_of, suffix_start}
 use Rattle.pb_keys.specs.KeyLaws.{key_cmp_total, key_cmp_exact}
 use Rattle.pb_keys.specs.Order.{bytes_cmp, is_below}
@@ -23,8 +23,9 @@ use Rattle.pb_memtable.specs.Commands.{row_of}
 use Rattle.pb_memtable.specs.Search.{IsPlaceOf, IsRowPlace, IsRow, change_at, rows_at}
 use Rattle.pb_memtable.proofs.IndexLaws.{change_new, place_more, place_new, rows_more}
 use Rattle.pb_rangedel.specs.Merging.{uncovered}
-use Rattle.pb_rangedel.proofs.NormalSpans.{end_is_prefix}
-use Rattle.pb_rangedel.proofs.RowMerging.{front_row, drop_follows, turned_greater, turned_less}
+use Rattle.pb_rows.proofs.NormalSpans.{end_is_prefix}
+use Rattle.pb_rangedel.proofs.RowMerging.{front_row, drop_follows}
+use Rattle.pb_rows.proofs.RowsOver.{turned_greater, turned_less}
 use Rattle.pb_rows.specs.Layer.{KeyRow, Rise}
 use Rattle.pb_rows.specs.Over.{with_row}
 use Rattle.pb_wal.specs.declared.entry.Entry.{Entry}

@@ -2,10 +2,10 @@
 use Rattle.std.proofs.Common.{◌≡◌, ℕ, ◌+◌, ◌<◌, ◌≤◌, List, length, get_or, Bool, true, false, refl, sym, ap, ◌∙◌, arith}
 use Rattle.std.specs.Ordering.{is_lt}
 use Rattle.std.proofs.lemmas.List.{get_or-map, length-map}
-use Rattle.pb_keys.specs.Key.{key_cmp, prefix_of, suffix_of}
+use Rattle.pb_keys.specs.Key.{key_cmp, prefix_of, suffix_of, is_before}
 use Rattle.pb_memtable.specs.Commands.{row_of}
-use Rattle.pb_memtable.specs.Search.{IsPlaceOf, change_at, rows_at, is_before}
-use Rattle.pb_rangedel.proofs.Bits.{not_true}
+use Rattle.pb_memtable.specs.Search.{IsPlaceOf, change_at, rows_at}
+use Rattle.pb_rows.proofs.Tests.{not_true}
 use Rattle.pb_rows.specs.Layer.{KeyRow, Rise}
 use Rattle.pb_rows.proofs.LookLaws.{is_row_below, rows_are_parted}
 use Rattle.pb_wal.specs.declared.entry.Entry.{Entry}

@@ -7,7 +7,7 @@ use Rattle.pb_memtable.specs.Search.{IsRowPlace, rows_at}
 use Rattle.pb_memtable.specs.View.{Commands, RoomFor, commands_of}
 use Rattle.pb_memtable.specs.declared.memtable.Memtable.TheInside.{Inside}
 use Rattle.pb_rows.specs.Layer.{AreApart, Rise}
-use Rattle.pb_wal.specs.Changes.{IsShort}
+use Rattle.pb_wal.specs.Changes.{HasShortValue}
 use Rattle.pb_wal.specs.declared.entry.Entry.{Entry}
 
 -- the places name the rows, and the spans are the deletions, of the commands' layer
@@ -18,7 +18,7 @@ pub record IsIndex (commands : List Entry) (numbers : List ℕ) (spans : List Ke
   pub dels : spans ≡ (layer_of_commands commands).dels
   pub in_form : All IsSpan spans
   pub apart : AreApart spans
-  pub short : All (λ entry. IsShort entry.change) commands
+  pub short : All (λ entry. HasShortValue entry.change) commands
 
 -- one more command takes no memory
 pub record Fits (a : Inside) : Type 0 where

@@ -1,9 +1,8 @@
 -- Rows by their places among the commands, in the order of their keys.
-use Rattle.std.specs.Prelude.{◌≡◌, ℕ, ◌<◌, ◌≤◌, List, [], length, map, Bool, slice_index_or, true, false}
-use Rattle.std.specs.Ordering.{is_lt, ordering_then}
+use Rattle.std.specs.Prelude.{◌≡◌, ℕ, ◌<◌, ◌≤◌, List, [], length, map, slice_index_or, true, false}
+use Rattle.std.specs.Ordering.{is_lt}
 use Rattle.std.specs.List.Sorted.{IsPartitionPoint}
-use Rattle.pb_keys.specs.Key.{prefix_of, suffix_of, key_cmp}
-use Rattle.pb_keys.specs.Order.{bytes_cmp}
+use Rattle.pb_keys.specs.Key.{key_cmp}
 use Rattle.pb_memtable.specs.Commands.{row_of}
 use Rattle.pb_rows.specs.Layer.{KeyRow}
 use Rattle.pb_wal.specs.declared.entry.Change.{Change}
@@ -29,10 +28,6 @@ IsRow (DelRange span) = ⊥
 pub record IsRowPlace (entries : List Entry) (place : ℕ) : Type 0 where
   pub within : place < length entries
   pub row : IsRow (change_at entries place)
-
--- whether the key is below the one with these parts
-abbrev pub is_before : List ℕ → List ℕ → List ℕ → Bool
-is_before prefix suffix key = is_lt (ordering_then (bytes_cmp (prefix_of key) prefix) (bytes_cmp (suffix_of key) suffix))
 
 -- the rows before the place are below the key, and the others aren't
 pub record IsPlaceOf (key : List ℕ) (rows : List KeyRow) (at : ℕ) : Type 0 where

@@ -1,9 +1,7 @@
 -- What contracts see of a memtable: its commands, and for which command there is room.
-use Rattle.std.specs.Prelude.{◌≡◌, List, Bool, ◌||◌}
-use Rattle.std.specs.List.{list_any}
-use Rattle.pb_keys.specs.Span.{KeySpan, holds_key, overlap}
-use Rattle.pb_rows.specs.Layer.{KeyLayer}
-use Rattle.pb_wal.specs.Changes.{IsShort}
+use Rattle.std.specs.Prelude.{◌≡◌, List}
+use Rattle.pb_keys.specs.Span.{KeySpan}
+use Rattle.pb_wal.specs.Changes.{HasShortValue}
 use Rattle.pb_wal.specs.declared.entry.Change.{Change}
 use Rattle.pb_wal.specs.declared.entry.Change.TheVariants.{Set, Del, DelRange}
 use Rattle.pb_wal.specs.declared.entry.Entry.{Entry}
@@ -29,8 +27,4 @@ room_for (DelRange span) = ForSpan span
 -- room was reserved for this command
 pub record IsReserved (spare : RoomFor) (change : Change) : Type 0 where
   pub room : spare ≡ room_for change
-  pub short : IsShort change
-
--- a row's key lies in the span, or a deletion overlaps it
-abbrev pub touches : KeyLayer → KeySpan → Bool
-touches layer span = list_any (λ row. holds_key span row.key) layer.rows || list_any (λ del. overlap span del) layer.dels
+  pub short : HasShortValue change

@@ -3,7 +3,7 @@ ghost use Rattle.pb_memtable.specs.Commands.{row_of, length_of};
 ghost use Rattle.pb_memtable.specs.Search.{IsRowPlace, change_at};
 ghost use Rattle.pb_rows.specs.Found.{as_verdict};
 ghost use Rattle.std.specs.Prelude.{Some};
-ghost use Rattle.pb_wal.specs.Changes.{IsShort};
+ghost use Rattle.pb_wal.specs.Changes.{HasShortValue};
 
 use pb_keys::Key;
 use pb_rows::Found;
@@ -35,7 +35,7 @@ pub(crate) fn found_at<'a>(entries: &'a [Entry], place: usize) -> Found<'a>
 
 /// The length of the command's key and value, or of its ends.
 pub(crate) fn length_of(change: &Change) -> u64
-    requires { IsShort change.now }
+    requires { HasShortValue change.now }
     ensures length { result ≡ length_of change.now }
     ensures low { result ≤ 66560 }
 {

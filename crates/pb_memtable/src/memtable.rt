@@ -1,9 +1,10 @@
 ghost use Rattle.std.specs.Prelude.{◌≡◌, [], ◌∷◌, ◌++◌, IfOk, OnOk, OnErr};
 ghost use Rattle.pb_memtable.specs.Commands.{layer_of_commands, size_of};
-ghost use Rattle.pb_memtable.specs.View.{IsReserved, RoomFor, commands_of, touches};
+ghost use Rattle.pb_memtable.specs.View.{IsReserved, RoomFor, commands_of};
+ghost use Rattle.pb_rows.specs.Touching.{touches};
 ghost use Rattle.pb_rows.specs.Found.{as_verdict};
 ghost use Rattle.pb_rows.specs.Verdict.{verdict};
-ghost use Rattle.pb_wal.specs.Changes.{IsShort};
+ghost use Rattle.pb_wal.specs.Changes.{HasShortValue};
 
 use super::adding::index;
 use super::changes::{found_at, length_of};
@@ -65,7 +66,7 @@ impl Memtable {
 
     /// Makes room for this command, in the place of the room for another one. Without memory nothing has changed.
     pub fn reserve(&mut self, alloc: Global, entry: &Entry) -> Result<(), AllocError>
-        requires { IsShort entry.now.change }
+        requires { HasShortValue entry.now.change }
         ensures entries { self.new.entries ≡ self.old.entries }
         ensures ok { OnOk result (IsReserved self.new.room entry.now.change) }
         ensures err { OnErr result (self.new ≡ self.old) }

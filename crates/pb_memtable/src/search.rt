@@ -1,7 +1,7 @@
 ghost use Rattle.std.specs.Prelude.{◌≡◌, ℕ, ◌<◌, List, length, All, slice_index, true};
-ghost use Rattle.pb_keys.specs.Key.{prefix_of, suffix_of};
+ghost use Rattle.pb_keys.specs.Key.{prefix_of, suffix_of, is_before};
 ghost use Rattle.pb_memtable.specs.Commands.{row_of};
-ghost use Rattle.pb_memtable.specs.Search.{IsRowPlace, IsPlaceOf, is_before, rows_at, change_at};
+ghost use Rattle.pb_memtable.specs.Search.{IsRowPlace, IsPlaceOf, rows_at, change_at};
 ghost use Rattle.pb_rows.specs.Layer.{Rise};
 
 use super::changes::key_at;

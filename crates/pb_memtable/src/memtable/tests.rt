@@ -1,5 +1,5 @@
 ghost use Rattle.std.specs.Prelude.{◌≤◌, length};
-ghost use Rattle.pb_wal.specs.Changes.{IsShort};
+ghost use Rattle.pb_wal.specs.Changes.{HasShortValue};
 
 use super::*;
 use pb_keys::Bytes;
@@ -23,7 +23,7 @@ struct Plain {
 }
 
 fn reserve_and_add(alloc: Global, memtable: &mut Memtable, change: Change) -> Result<(), Fail>
-    requires { IsShort change }
+    requires { HasShortValue change }
 {
     let entry = Entry { count: 1, change };
     memtable.reserve(alloc, &entry)?;

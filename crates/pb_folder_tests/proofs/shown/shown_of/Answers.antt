@@ -3,9 +3,8 @@ use Rattle.std.specs.List.{All}
 use Rattle.pb_keys.specs.Key.{IsKey}
 use Rattle.pb_keys.specs.Span.{KeySpan, IsSpan, holds_key}
 use Rattle.pb_keys.specs.View.{KeyView}
-use Rattle.pb_rangedel.specs.Spans.{cut_to}
+use Rattle.pb_rows.specs.Viewed.{cut_to, mapped_key, mapped_row, mapped_span}
 use Rattle.pb_rows.specs.Layer.{KeyRow}
-use Rattle.pb_rows.specs.Viewed.{mapped_key, mapped_row, mapped_span}
 use Rattle.std.specs.Prelude.{filter}
 use Rattle.pb_folder_tests.specs.Shown.{are_own_keys}
 use Rattle.pb_folder_tests.proofs.Results.{at_some}

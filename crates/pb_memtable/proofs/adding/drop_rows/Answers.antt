@@ -2,7 +2,7 @@ use Rattle.std.proofs.Common.{ℕ, List, sym, ap, ◌∙◌, subst, arith}
 use Rattle.pb_memtable.specs.Search.{IsPlaceOf, rows_at}
 use Rattle.pb_memtable.proofs.Placing.{end_without_suffix, ends_rise, rows-dropped, rows-uncovered}
 use Rattle.pb_memtable.proofs.SearchLaws.{length-rows_at}
-use Rattle.pb_rangedel.proofs.NormalSpans.{end_is_prefix}
+use Rattle.pb_rows.proofs.NormalSpans.{end_is_prefix}
 use Rattle.pb_memtable.proofs.adding.drop_rows.Goals as goal
 
 pub remove_range-requires-clause-rises : goal.remove_range-requires-clause-rises

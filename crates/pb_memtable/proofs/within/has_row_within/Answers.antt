@@ -6,7 +6,7 @@ use Rattle.pb_memtable.specs.Search.{change_at, rows_at}
 use Rattle.pb_memtable.proofs.Covering.{row_within_here, row_within_nowhere}
 use Rattle.pb_memtable.proofs.Placing.{end_without_suffix}
 use Rattle.pb_memtable.proofs.SearchLaws.{row_at_place, length-rows_at}
-use Rattle.pb_rangedel.proofs.NormalSpans.{end_is_prefix}
+use Rattle.pb_rows.proofs.NormalSpans.{end_is_prefix}
 use Rattle.pb_memtable.proofs.within.has_row_within.Goals as goal
 
 pub returns-then-at-places : goal.returns-then-at-places

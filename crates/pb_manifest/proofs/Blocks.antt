@@ -1,7 +1,7 @@
 -- Blocks of numbers, one after the other.
 use Rattle.std.proofs.Common.{◌≡◌, ℕ, ◌+◌, ◌<◌, ◌≤◌, ◌^◌, refl, sym, ap, ◌∙◌, subst, arith}
 use Rattle.pb_devices.specs.Contents.{Contents, KeepsOthers}
-use Rattle.pb_devices.proofs.Images.{kept_then}
+use Rattle.pb_devices.proofs.Kept.{kept_then}
 use Rattle.pb_edit.specs.Edit.{VersionEdit}
 use Rattle.pb_version.specs.Version.{VersionView}
 use Rattle.pb_version.specs.Edited.{edited}

@@ -7,7 +7,7 @@ use Rattle.pb_devices.proofs.Images.{settled_image}
 use Rattle.pb_edit.specs.Edit.{VersionEdit}
 use Rattle.pb_edit.specs.Grammar.{IsEdit, edit_spelling}
 use Rattle.pb_gate_log.specs.EachLog.{LogPlace, EachLog}
-use Rattle.pb_gate_log.specs.Payloads.{HasList}
+use Rattle.pb_gate_log.specs.Payloads.{HasList, payloads_in}
 use Rattle.pb_gate_log.proofs.LogStates.{each_has, each_kept}
 use Rattle.pb_names.specs.Spelling.{current_name}
 use Rattle.pb_payloads.specs.Current.{IsPointer, pointer_spelling}
@@ -15,7 +15,7 @@ use Rattle.pb_payloads.proofs.CurrentLaws.{current_holds}
 use Rattle.pb_version.specs.Version.{empty_version}
 use Rattle.pb_version.specs.Edited.{edited}
 use Rattle.pb_version.specs.Rules.{first_broken}
-use Rattle.pb_manifest.specs.Manifest.{manifest_name, pointer_to, payloads_in, SaysFolder, EachManifest, KeepsAllBut}
+use Rattle.pb_manifest.specs.Manifest.{manifest_name, pointer_to, SaysFolder, EachManifest, KeepsAllBut}
 use Rattle.pb_manifest.proofs.Folders.{apart, says_of}
 use Rattle.pb_version.proofs.SaysLaws.{says_first}
 use Rattle.pb_manifest.proofs.Kept.{first_has_next}
@@ -41,16 +41,16 @@ first_low edit number next unbroken is within below = is_low edit.next number ne
 
 pub one_kept : (old new : Contents) (one two : List ℕ) → KeepsOthers old new one → KeepsAllBut old new one two
 one_kept old new one two kept = record {
-  reads = λ other apart _. kept.reads other apart;
-  images = λ other image apart _. kept.images other image apart;
-  settled = λ other apart _. kept.settled other apart;
+  reads = λ other apart _. (kept other apart).reads;
+  images = λ other image apart _. (kept other apart).images image;
+  settled = λ other apart _. (kept other apart).settled;
 }
 
 pub both_kept : (old mid new : Contents) (one two : List ℕ) → KeepsOthers old mid one → KeepsOthers mid new two → KeepsAllBut old new one two
 both_kept old mid new one two a b = record {
-  reads = λ other not_one not_two. b.reads other not_two ∙ a.reads other not_one;
-  images = λ other image not_one not_two left. a.images other image not_one (b.images other image not_two left);
-  settled = λ other not_one not_two settled. b.settled other not_two (a.settled other not_one settled);
+  reads = λ other not_one not_two. (b other not_two).reads ∙ (a other not_one).reads;
+  images = λ other image not_one not_two left. (a other not_one).images image ((b other not_two).images image left);
+  settled = λ other not_one not_two settled. (b other not_two).settled ((a other not_one).settled settled);
 }
 
 pub none_kept : (disk : Contents) (one two : List ℕ) → KeepsAllBut disk disk one two
@@ -67,13 +67,13 @@ payloads_before disk image settled left = ap payloads_in (settled_image disk cur
 
 module _ (number : ℕ) (low : number < 2 ^ 62) (old mid : Contents) (made : KeepsOthers old mid (manifest_name number)) (settled : IsSettled old current_name) where
   pub still_settled : IsSettled mid current_name
-  still_settled = made.settled current_name (apart number low) settled
+  still_settled = (made current_name (apart number low)).settled settled
 
   pub seen_before : mid.seen current_name ≡ old.seen current_name
-  seen_before = made.reads current_name (apart number low)
+  seen_before = (made current_name (apart number low)).reads
 
   pub image_before : (image : Option (List ℕ)) → MayLeave mid current_name image → payloads_in image ≡ payloads_in (old.seen current_name)
-  image_before image left = payloads_before old image settled (made.images current_name image (apart number low) left)
+  image_before image left = payloads_before old image settled ((made current_name (apart number low)).images image left)
 
 -- each image has the pointer of before, or both logs whole
 pub pointed : (number : ℕ) → number < 2 ^ 62 → (log : LogPlace) (edit pointer : List ℕ) (old mid new : Contents) → log.file ≡ manifest_name number → EachLog log (edit ∷ []) mid → mid.seen current_name ≡ old.seen current_name → KeepsOthers mid new current_name → (folder : Folder) → IsImage new folder
@@ -82,7 +82,7 @@ pub pointed : (number : ℕ) → number < 2 ^ 62 → (log : LogPlace) (edit poin
     ⊎ (HasList (payloads_in (old.seen current_name) ++ pointer ∷ []) (folder current_name) × HasList (edit ∷ []) (folder (manifest_name number)))
 pointed number low log edit pointer old mid new named each seen kept folder image left =
     let name = manifest_name number in
-    let before = kept.images name (folder name) (λ same. apart number low (sym same)) (image name) in
+    let before = (kept name (λ same. apart number low (sym same))).images (folder name) (image name) in
     elim left [
       | inl same ↦ inl (same ∙ ap payloads_in seen)
       | inr has ↦ inr (

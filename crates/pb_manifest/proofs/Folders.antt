@@ -4,7 +4,7 @@ use Rattle.pb_devices.specs.Contents.{Contents, Folder, MayLeave, IsImage, Keeps
 use Rattle.pb_edit.specs.Edit.{VersionEdit}
 use Rattle.pb_edit.specs.Grammar.{IsEdit, edit_spelling}
 use Rattle.pb_gate_log.specs.EachLog.{LogPlace, EachLog}
-use Rattle.pb_gate_log.specs.Payloads.{HasList}
+use Rattle.pb_gate_log.specs.Payloads.{HasList, payloads_in}
 use Rattle.pb_gate_log.proofs.LogStates.{each_has, each_kept}
 use Rattle.pb_names.specs.Named.Named.{current, file}
 use Rattle.pb_names.specs.Spelling.{current_name}
@@ -15,7 +15,7 @@ use Rattle.pb_version.specs.Version.{VersionView}
 use Rattle.pb_version.specs.Edited.{edited}
 use Rattle.pb_version.specs.Rules.{first_broken}
 use Rattle.pb_version.specs.SaysVersion.{SaysVersion}
-use Rattle.pb_manifest.specs.Manifest.{ManifestView, catalogue_name, manifest_name, pointer_to, payloads_in, SaysFolder, EachManifest, EachSays}
+use Rattle.pb_manifest.specs.Manifest.{ManifestView, catalogue_name, manifest_name, pointer_to, SaysFolder, EachManifest, EachSays}
 use Rattle.pb_version.proofs.SaysLaws.{says_more}
 use Rattle.pb_manifest.proofs.Kept.{next_stays}
 

@@ -1,9 +1,8 @@
 -- The payloads of a log's file.
 use Rattle.std.proofs.Common.{ℕ, List, Option, Some, None, IsSome, refl, inr}
 use Rattle.std.proofs.lemmas.Bool.{false≢true}
-use Rattle.pb_gate_log.specs.Payloads.{HasList}
+use Rattle.pb_gate_log.specs.Payloads.{HasList, payloads_in}
 use Rattle.pb_manifest.specs.Found.{SameOrSaid}
-use Rattle.pb_manifest.specs.Manifest.{payloads_in}
 
 -- a file that is there has its own payloads
 pub has_own : (file : Option (List ℕ)) → IsSome file → HasList (payloads_in file) file

@@ -2,16 +2,18 @@
 use Rattle.std.proofs.Common.{◌≡◌, ◌<◌, ◌^◌, ℕ, List, [], Option, IsSome, sym, ◌∙◌, subst, inl, inr, arith}
 use Rattle.pb_devices.specs.Contents.{Contents, Folder, MayLeave, IsSettled, KeepsOthers}
 use Rattle.pb_devices.specs.DiskCalls.{Stays}
-use Rattle.pb_devices.proofs.Images.{kept_then, stays_image, stays_kept, stays_settled}
+use Rattle.pb_devices.proofs.Images.{stays_image, stays_settled}
+use Rattle.pb_devices.proofs.Kept.{kept_then, stays_kept}
 use Rattle.pb_gate_log.specs.EachLog.{LogPlace, EachLog}
-use Rattle.pb_gate_log.specs.Payloads.{HasList}
+use Rattle.pb_gate_log.specs.Payloads.{HasList, payloads_in}
 use Rattle.pb_gate_log.proofs.LogStates.{each_kept}
+use Rattle.pb_gate_log.specs.NewFolder.{IsNew}
 use Rattle.pb_names.specs.Spelling.{current_name}
 use Rattle.pb_payloads.specs.Current.{Pointer, SaysCurrent}
 use Rattle.pb_version.specs.Version.{VersionView}
 use Rattle.pb_version.specs.SaysVersion.{SaysVersion}
-use Rattle.pb_manifest.specs.Found.{AreThere, HasVersion, IsDamaged, IsLacking, IsNew, IsUnfolded, IsUnreserved, KeepsPayloads, KeepsUnnamed, Names, SameOrSaid, Says}
-use Rattle.pb_manifest.specs.Manifest.{EachManifest, catalogue_name, manifest_name, payloads_in, pointer_to}
+use Rattle.pb_manifest.specs.Found.{AreThere, HasVersion, IsDamaged, IsLacking, IsUnfolded, IsUnreserved, KeepsPayloads, KeepsUnnamed, Names, SameOrSaid, Says}
+use Rattle.pb_manifest.specs.Manifest.{EachManifest, catalogue_name, manifest_name, pointer_to}
 use Rattle.pb_manifest.specs.Steps.{IsLost, IsUnread}
 use Rattle.pb_manifest.proofs.Folders.{apart, apart_catalogue, has_payloads}
 use Rattle.pb_manifest.proofs.Opening.{both_keep, both_settled, first_kept, new_names_none}
@@ -50,10 +52,10 @@ module _ (old mid same : Contents) (payloads : List (List ℕ)) (list : HasList 
       subst (λ (l : List (List ℕ)). SaysCurrent l pointer) (sym (has_payloads payloads (old.seen current_name) list)) says
 
   manifest_before : (number : ℕ) → number < 2 ^ 62 → mid.seen (manifest_name number) ≡ old.seen (manifest_name number)
-  manifest_before number low = others.reads (manifest_name number) (λ is. apart number low (sym is))
+  manifest_before number low = (others (manifest_name number) (λ is. apart number low (sym is))).reads
 
   catalogue_before : (number : ℕ) → number < 2 ^ 62 → mid.seen (catalogue_name number) ≡ old.seen (catalogue_name number)
-  catalogue_before number low = others.reads (catalogue_name number) (λ is. apart_catalogue number low (sym is))
+  catalogue_before number low = (others (catalogue_name number) (λ is. apart_catalogue number low (sym is))).reads
 
   pub is_new : payloads ≡ [] → IsNew old.seen
   is_new none = has_payloads payloads (old.seen current_name) list ∙ none
@@ -138,9 +140,9 @@ new_undamaged folder file new damaged =
 
 pub unnamed_kept : (old new : Contents) → KeepsOthers old new current_name → KeepsUnnamed old new
 unnamed_kept old new others = record {
-  reads = λ other unnamed. others.reads other unnamed.0;
-  images = λ other image unnamed. others.images other image unnamed.0;
-  settled = λ other unnamed. others.settled other unnamed.0;
+  reads = λ other unnamed. (others other unnamed.0).reads;
+  images = λ other image unnamed. (others other unnamed.0).images image;
+  settled = λ other unnamed. (others other unnamed.0).settled;
 }
 
 -- the current pointer was opened, and then the disk stayed
@@ -161,7 +163,7 @@ module _ (old mid same : Contents) (settled : (name : List ℕ) → IsSettled ol
   module _ (pointer : Pointer) (names : Names pointer old.seen) where
     pub manifest_settled : IsSettled same (manifest_name pointer.manifest)
     manifest_settled =
-        others_stay.settled (manifest_name pointer.manifest) (λ is. apart pointer.manifest names.in_form.manifest (sym is))
+        (others_stay (manifest_name pointer.manifest) (λ is. apart pointer.manifest names.in_form.manifest (sym is))).settled
         (settled (manifest_name pointer.manifest))
 
     -- was opened
@@ -171,9 +173,9 @@ module _ (old mid same : Contents) (settled : (name : List ℕ) → IsSettled ol
 
       pub read_unnamed : KeepsUnnamed old new
       read_unnamed = record {
-        reads = λ other unnamed. then.reads other (unnamed.1 pointer names) ∙ others_stay.reads other unnamed.0;
-        images = λ other image unnamed left. others_stay.images other image unnamed.0 (then.images other image (unnamed.1 pointer names) left);
-        settled = λ other unnamed before. then.settled other (unnamed.1 pointer names) (others_stay.settled other unnamed.0 before);
+        reads = λ other unnamed. (then other (unnamed.1 pointer names)).reads ∙ (others_stay other unnamed.0).reads;
+        images = λ other image unnamed left. (others_stay other unnamed.0).images image ((then other (unnamed.1 pointer names)).images image left);
+        settled = λ other unnamed before. (then other (unnamed.1 pointer names)).settled ((others_stay other unnamed.0).settled before);
       }
 
       pub read_settled : IsSettled mid current_name → IsSettled new (manifest_name pointer.manifest) → (name : List ℕ) → IsSettled new name

@@ -11,8 +11,10 @@ use Rattle.pb_names.specs.Spelling.{current_name}
 use Rattle.pb_payloads.specs.Current.{Pointer, pointer_spelling}
 use Rattle.pb_payloads.proofs.CurrentLaws.{one_current}
 use Rattle.pb_version.specs.Version.{VersionView}
-use Rattle.pb_manifest.specs.Manifest.{manifest_name, payloads_in}
-use Rattle.pb_manifest.specs.Found.{HasVersion, IsAmiss, IsDamaged, IsNew, KeepsPayloads, Names, SameOrSaid}
+use Rattle.pb_gate_log.specs.Payloads.{payloads_in}
+use Rattle.pb_gate_log.specs.NewFolder.{IsNew}
+use Rattle.pb_manifest.specs.Manifest.{manifest_name}
+use Rattle.pb_manifest.specs.Found.{HasVersion, IsAmiss, IsDamaged, KeepsPayloads, Names, SameOrSaid}
 use Rattle.pb_manifest.proofs.Folders.{apart}
 use Rattle.pb_version.proofs.SaysLaws.{one_version}
 
@@ -83,14 +85,14 @@ module _ (old mid : Contents) (settled : (name : List ℕ) → IsSettled old nam
       elim (same_or name current_name) [
         | inl same ↦
             subst (λ (n : List ℕ). SameOrSaid (old.seen n) image) (sym same) (current image (subst (λ (n : List ℕ). MayLeave mid n image) same left))
-        | inr other ↦ inl (settled_image old name image (settled name) (others.images name image other left))
+        | inr other ↦ inl (settled_image old name image (settled name) ((others name other).images image left))
       ]
 
   pub all_settled : IsSettled mid current_name → (name : List ℕ) → IsSettled mid name
   all_settled here name =
       elim (same_or name current_name) [
         | inl same ↦ subst (λ (n : List ℕ). IsSettled mid n) (sym same) here
-        | inr other ↦ others.settled name other (settled name)
+        | inr other ↦ (others name other).settled (settled name)
       ]
 
   -- and then the manifest's
@@ -99,16 +101,16 @@ module _ (old mid : Contents) (settled : (name : List ℕ) → IsSettled old nam
     both_keep name image left =
         elim (same_or name (manifest_name number)) [
           | inl same ↦
-              let seen : mid.seen (manifest_name number) ≡ old.seen (manifest_name number) = others.reads (manifest_name number) (λ is. apart number low (sym is)) in
+              let seen : mid.seen (manifest_name number) ≡ old.seen (manifest_name number) = (others (manifest_name number) (λ is. apart number low (sym is))).reads in
               subst (λ (n : List ℕ). SameOrSaid (old.seen n) image) (sym same)
               (subst (λ (file : Option (List ℕ)). SameOrSaid file image) seen
               (manifest image (subst (λ (n : List ℕ). MayLeave new n image) same left)))
-          | inr other ↦ first_kept name image (then.images name image other left)
+          | inr other ↦ first_kept name image ((then name other).images image left)
         ]
 
     pub both_settled : IsSettled mid current_name → IsSettled new (manifest_name number) → (name : List ℕ) → IsSettled new name
     both_settled first last name =
         elim (same_or name (manifest_name number)) [
           | inl same ↦ subst (λ (n : List ℕ). IsSettled new n) (sym same) last
-          | inr other ↦ then.settled name other (all_settled first name)
+          | inr other ↦ (then name other).settled (all_settled first name)
         ]

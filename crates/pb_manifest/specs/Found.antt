@@ -1,16 +1,13 @@
 -- What an opening finds in a folder, and what it leaves there.
-use Rattle.std.specs.Prelude.{◌≡◌, ℕ, ◌<◌, ◌≤◌, ◌⊎◌, List, [], Option, None, IsSome}
+use Rattle.std.specs.Prelude.{◌≡◌, ℕ, ◌<◌, ◌≤◌, ◌⊎◌, List, Option, None, IsSome}
 use Rattle.pb_devices.specs.Contents.{Contents, Folder, IsSettled, MayLeave}
-use Rattle.pb_gate_log.specs.Payloads.{HasList}
+use Rattle.pb_gate_log.specs.NewFolder.{IsNew}
+use Rattle.pb_gate_log.specs.Payloads.{HasList, payloads_in}
 use Rattle.pb_names.specs.Spelling.{current_name}
 use Rattle.pb_payloads.specs.Current.{Pointer, SaysCurrent}
 use Rattle.pb_version.specs.Version.{VersionView}
 use Rattle.pb_version.specs.SaysVersion.{SaysVersion}
-use Rattle.pb_manifest.specs.Manifest.{catalogue_name, manifest_name, payloads_in}
-
--- the folder of a new store: the current pointer is absent, or has no payload
-abbrev pub IsNew : Folder → Type 0
-IsNew folder = payloads_in (folder current_name) ≡ []
+use Rattle.pb_manifest.specs.Manifest.{catalogue_name, manifest_name}
 
 abbrev pub Names : Pointer → Folder → Type 0
 Names pointer folder = SaysCurrent (payloads_in (folder current_name)) pointer

@@ -1,8 +1,8 @@
 -- A manifest over a folder: which version the folder's files say.
-use Rattle.std.specs.Prelude.{◌≡◌, ℕ, ◌<◌, ◌≤◌, ◌⊎◌, List, [], Option, Some, None}
+use Rattle.std.specs.Prelude.{◌≡◌, ℕ, ◌<◌, ◌≤◌, ◌⊎◌, List, Option}
 use Rattle.pb_devices.specs.Contents.{Contents, Folder, MayLeave, IsImage, IsSettled}
 use Rattle.pb_gate_log.specs.EachLog.{LogPlace, EachLog}
-use Rattle.pb_gate_log.specs.Payloads.{payloads}
+use Rattle.pb_gate_log.specs.Payloads.{payloads_in}
 use Rattle.pb_names.specs.Spelling.{current_name, file_name}
 use Rattle.pb_names.specs.declared.file_kind.FileKind.TheVariants.{Manifest, Catalogue}
 use Rattle.pb_payloads.specs.Current.{Pointer, SaysCurrent}
@@ -30,11 +30,6 @@ catalogue_name number = file_name Catalogue number
 
 abbrev pub pointer_to : ℕ → ℕ → Pointer
 pointer_to manifest catalogue = record { manifest = manifest; catalogue = catalogue }
-
--- the payloads of a log's file, none where it is absent
-abbrev pub payloads_in : Option (List ℕ) → List (List ℕ)
-payloads_in None = []
-payloads_in (Some bytes) = payloads bytes
 
 -- the files of a folder say this version: the last payload of the current pointer names the two files, and the payloads of
 -- the manifest are edits that fold to the version

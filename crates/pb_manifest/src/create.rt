@@ -3,9 +3,9 @@ ghost use Rattle.pb_devices.specs.Contents.{Folder, IsImage, IsSettled, KeepsOth
 ghost use Rattle.pb_devices.specs.Counts.{Rose};
 ghost use Rattle.pb_edit.specs.Grammar.{IsEdit, edit_spelling};
 ghost use Rattle.pb_gate_log.specs.EachLog.{EachLog};
-ghost use Rattle.pb_gate_log.specs.Payloads.{HasList};
+ghost use Rattle.pb_gate_log.specs.Payloads.{HasList, payloads_in};
 ghost use Rattle.pb_manifest.specs.Judged.{Judges};
-ghost use Rattle.pb_manifest.specs.Manifest.{KeepsAllBut, manifest_name, payloads_in};
+ghost use Rattle.pb_manifest.specs.Manifest.{KeepsAllBut, manifest_name};
 ghost use Rattle.pb_names.specs.Spelling.{current_name};
 ghost use Rattle.pb_version.specs.Edited.{edited};
 ghost use Rattle.pb_version.specs.Rules.{first_broken};

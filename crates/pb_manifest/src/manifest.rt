@@ -2,9 +2,11 @@ ghost use Rattle.std.specs.Prelude.{◌≡◌, ◌⊎◌, ◌+◌, ◌<◌, ◌�
 ghost use Rattle.pb_devices.specs.Contents.{Folder, IsImage, IsSettled, KeepsOthers};
 ghost use Rattle.pb_devices.specs.Counts.{Rose};
 ghost use Rattle.pb_edit.specs.Grammar.{IsEdit};
-ghost use Rattle.pb_manifest.specs.Found.{HasVersion, IsDamaged, IsNew, KeepsPayloads, KeepsUnnamed, Names};
+ghost use Rattle.pb_manifest.specs.Found.{HasVersion, IsDamaged, KeepsPayloads, KeepsUnnamed, Names};
 ghost use Rattle.pb_manifest.specs.Judged.{Judges};
-ghost use Rattle.pb_manifest.specs.Manifest.{EachManifest, EachSays, IsNumbered, KeepsAllBut, SaysFolder, manifest_name, payloads_in, pointer_to};
+ghost use Rattle.pb_gate_log.specs.Payloads.{payloads_in};
+ghost use Rattle.pb_gate_log.specs.NewFolder.{IsNew};
+ghost use Rattle.pb_manifest.specs.Manifest.{EachManifest, EachSays, IsNumbered, KeepsAllBut, SaysFolder, manifest_name, pointer_to};
 ghost use Rattle.pb_manifest.specs.Numbers.{IsFolded, IsSpent, OnlyReserves, SameNumbers, block_end, with_next};
 ghost use Rattle.pb_names.specs.Spelling.{current_name};
 ghost use Rattle.pb_version.specs.declared.broken.Broken.{Broken};
@@ -18,8 +20,9 @@ use crate::numbers::{BLOCK, reserve_below};
 use crate::open::{find, open_current, read_version};
 use crate::pointer::spell_pointer;
 use crate::{CommitError, ManifestError};
+use pb_bytes::NUMBERS;
 use pb_devices::Disk;
-use pb_edit::{Edit, NUMBERS};
+use pb_edit::Edit;
 use pb_gate_log::GateLog;
 use pb_version::Version;
 use std::alloc::Global;
@@ -181,7 +184,7 @@ impl Manifest {
     }
 
     /// Draws numbers that follow one another from the answer, as many as are asked for. Where the reserved ones don't reach,
-    /// blocks of 64 are reserved before, one by one, each by an edit of its own.
+    /// blocks of `BLOCK` numbers are reserved before, one by one, each by an edit of its own.
     ///
     /// After an error none is drawn, and the blocks that were reserved stay so. `Spent` comes exactly where the last block
     /// that is wanted would end at 2^62 or above. After `Disk` the manifest is to be opened again.

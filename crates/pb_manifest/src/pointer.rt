@@ -3,8 +3,7 @@ ghost use Rattle.pb_bytes.specs.Varint.{varint};
 ghost use Rattle.pb_payloads.specs.Current.{Pointer, IsPointer, SaysCurrent, pointer_spelling};
 ghost use Rattle.pb_manifest.specs.Manifest.{pointer_to};
 
-use pb_bytes::{put_varint, read_varint};
-use pb_edit::NUMBERS;
+use pb_bytes::{NUMBERS, put_varint, read_varint};
 use pb_keys::Bytes;
 use std::alloc::{AllocError, Global};
 

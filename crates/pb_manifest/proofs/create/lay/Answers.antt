@@ -1,7 +1,7 @@
 use Rattle.std.proofs.Common.{[], ◌∷◌, ◌++◌, List, ℕ, Option, ◌∙◌, subst, inl}
 use Rattle.pb_devices.specs.Contents.{KeepsOthers}
 use Rattle.pb_gate_log.specs.EachLog.{EachLog}
-use Rattle.pb_manifest.specs.Manifest.{payloads_in}
+use Rattle.pb_gate_log.specs.Payloads.{payloads_in}
 use Rattle.pb_names.specs.Spelling.{current_name}
 use Rattle.pb_manifest.proofs.Creating.{image_before, pointed, seen_before, still_log, still_settled}
 use Rattle.pb_manifest.proofs.create.lay.Goals as goal

@@ -1,4 +1,4 @@
-use Rattle.pb_gate_log.proofs.Frames.{stays_then}
+use Rattle.pb_devices.proofs.Kept.{stays_then}
 use Rattle.pb_manifest.proofs.open.are_there.Goals as goal
 
 pub returns-in_err-catalogue-clause-stays : goal.returns-in_err-catalogue-clause-stays

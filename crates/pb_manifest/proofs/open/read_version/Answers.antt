@@ -1,5 +1,8 @@
-use Rattle.std.proofs.Common.{◌≡◌, ℕ, List, sym, ap, ◌∙◌, subst, inr}
-use Rattle.pb_manifest.specs.Manifest.{manifest_name, payloads_in}
+use Rattle.std.proofs.Common.{◌≡◌, ℕ, List, Option, sym, ap, ◌∙◌, subst, inr}
+use Rattle.pb_devices.specs.Contents.{MayLeave}
+use Rattle.pb_gate_log.specs.Payloads.{payloads_in}
+use Rattle.pb_manifest.specs.Found.{SameOrSaid}
+use Rattle.pb_manifest.specs.Manifest.{manifest_name}
 use Rattle.pb_version.specs.SaysVersion.{SaysVersion}
 use Rattle.pb_version.specs.Version.{VersionView}
 use Rattle.pb_manifest.proofs.Errors.{same_file}
@@ -21,3 +24,9 @@ returns-in_default-clause-damaged g c = λ told file is.
       sym (same_file name file is) ∙ c.file-name.ensures,
       λ version says. nothing version (subst (λ (l : List (List ℕ)). SaysVersion l version) same says),
     )
+
+pub returns-clause-crash : goal.returns-clause-crash
+returns-clause-crash g c = λ told.
+    let old = g.D.Disk.contents c.args.disk.now in
+    let new = g.D.Disk.contents c.opened.new.disk in
+    subst (λ (name : List ℕ). (image : Option (List ℕ)) → MayLeave new name image → SameOrSaid (old.seen name) image) c.file-name.ensures (c.in_ok-log.ensures.crash told)

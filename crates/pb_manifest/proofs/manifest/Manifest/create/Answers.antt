@@ -1,5 +1,6 @@
 use Rattle.std.proofs.Common.{sym, ◌∙◌, subst, inl, inr}
-use Rattle.pb_manifest.specs.Manifest.{EachManifest, ManifestView, payloads_in}
+use Rattle.pb_gate_log.specs.Payloads.{payloads_in}
+use Rattle.pb_manifest.specs.Manifest.{EachManifest, ManifestView}
 use Rattle.pb_names.specs.Spelling.{current_name}
 use Rattle.pb_version.specs.Version.{VersionView}
 use Rattle.pb_manifest.proofs.Creating.{first_low, made_whole, payloads_before, whole_or_before}

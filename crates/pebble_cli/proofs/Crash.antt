@@ -20,7 +20,8 @@ use Rattle.pb_machine.specs.Stores.{changing_of, changed_by, opened_by, shut, fa
 use Rattle.pb_machine.specs.Lines.{line_after}
 use Rattle.pb_machine.specs.Runs.{states_after}
 use Rattle.pebble_cli.specs.Steps.{as_line, step_after, step_reply}
-use Rattle.pebble_cli.specs.Folder.{log_name, payloads_in, Make, HasFrom}
+use Rattle.pb_gate_log.specs.Payloads.{payloads_in}
+use Rattle.pebble_cli.specs.Folder.{log_name, Make, HasFrom}
 use Rattle.pebble_cli.specs.StoreStates.{IsIn, Keeps, Finds, IsSetBy, map_in, ran_of}
 use Rattle.pebble_cli.specs.Headline.{IsGood, MayStandFor, IsAccepted, IsHistory, IsKept, IsHeld, FindsAt, FindsHistory, Headline, of_a}
 use Rattle.pebble_cli.specs.declared.step.Step.{Step}

@@ -17,7 +17,8 @@ use Rattle.pb_machine.specs.States.{StoreState, is_open}
 use Rattle.pb_machine.specs.Marks.{Ran, refusal_of}
 use Rattle.pb_machine.specs.Stores.{changing_reply, counted_reply, get_reply, looked_up, unless_fault, unless_memory}
 use Rattle.pebble_cli.specs.Steps.{step_reply}
-use Rattle.pebble_cli.specs.Folder.{log_name, payloads_in, Make, HasFrom}
+use Rattle.pb_gate_log.specs.Payloads.{payloads_in}
+use Rattle.pebble_cli.specs.Folder.{log_name, Make, HasFrom}
 use Rattle.pebble_cli.specs.Headline.{IsSpoilt}
 use Rattle.pebble_cli.specs.Runs.{has_damage}
 use Rattle.pebble_cli.specs.StoreStates.{Finds, IsSetBy}

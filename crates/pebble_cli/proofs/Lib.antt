@@ -3,7 +3,6 @@ pub mod WordBytes
 pub mod Maps
 pub mod SettingFacts
 pub mod SetFacts
-pub mod LogFacts
 pub mod LoggedFacts
 pub mod StoreFacts
 pub mod StepFacts

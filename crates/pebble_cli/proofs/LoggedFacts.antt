@@ -1,16 +1,19 @@
 -- A command in the log, and in the map.
-use Rattle.std.proofs.Common.{◌≡◌, ℕ, ◌+◌, ◌⊎◌, inl, inr, List, [], ◌∷◌, ◌++◌, Option, sym, ap, ◌∙◌, subst}
+use Rattle.std.proofs.Common.{◌≡◌, ℕ, ◌+◌, ◌⊎◌, inl, inr, List, [], ◌∷◌, ◌++◌, Option, Some, None, sym, ap, ◌∙◌, subst}
 use Rattle.std.specs.FinMap.{insert}
 use Rattle.pb_devices.specs.Contents.{Contents, MayLeave}
 use Rattle.pb_gate_log.proofs.LogStates.{each_has}
 use Rattle.pb_gate_log.specs.EachLog.{EachLog}
-use Rattle.pb_gate_log.specs.Payloads.{HasList}
+use Rattle.pb_gate_log.specs.Payloads.{HasList, payloads_in}
 use Rattle.pebble_cli.specs.Settings.{Set, IsSet, payload_of}
 use Rattle.pb_keys.specs.Map.{Map}
 use Rattle.pebble_cli.specs.Store.{Held}
-use Rattle.pebble_cli.specs.Folder.{log_name, payloads_in, Make, KeepsLog}
-use Rattle.pebble_cli.proofs.LogFacts.{has_payloads}
+use Rattle.pebble_cli.specs.Folder.{log_name, Make, KeepsLog}
 use Rattle.pebble_cli.proofs.SetFacts.{make_more}
+
+has_payloads : (list : List (List ℕ)) (image : Option (List ℕ)) → HasList list image → payloads_in image ≡ list
+has_payloads list None has = absurd has
+has_payloads list (Some bytes) has = has
 
 abbrev pub next_set : Held → List ℕ → List ℕ → Set
 next_set held key value = record { count = held.count + 1; key = key; value = value }

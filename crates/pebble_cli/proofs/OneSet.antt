@@ -9,7 +9,8 @@ use Rattle.std.proofs.lemmas.Bool.Decides.{nat_tests}
 use Rattle.pb_devices.specs.Contents.{Contents, Folder, IsImage, MayLeave}
 use Rattle.pb_devices.specs.declared.trace.Mark.{Mark}
 use Rattle.pb_keys.specs.Map.{Map}
-use Rattle.pebble_cli.specs.Folder.{log_name, payloads_in, Make, StandsFor}
+use Rattle.pb_gate_log.specs.Payloads.{payloads_in}
+use Rattle.pebble_cli.specs.Folder.{log_name, Make, StandsFor}
 use Rattle.pb_mem.specs.Disk.{DiskView, held}
 use Rattle.pb_mem.specs.Slots.{SlotView, Slots, IsImageOf, IsImageOfAny, earlier_of, file_of}
 use Rattle.pebble_cli.specs.Headline.{Headline, IsGood, IsHeld, MayStandFor, of_a}

@@ -3,7 +3,7 @@ use Rattle.std.specs.Prelude.{◌≡◌, ℕ, ◌≤◌, List, [], Option, Some,
 use Rattle.std.specs.FinMap.{empty, insert}
 use Rattle.pb_devices.specs.Contents.{Contents, Folder, MayLeave}
 use Rattle.pb_gate_log.specs.EachLog.{EachLog}
-use Rattle.pb_gate_log.specs.Payloads.{payloads}
+use Rattle.pb_gate_log.specs.Payloads.{payloads_in}
 use Rattle.pb_names.specs.Spelling.{file_name}
 use Rattle.pb_names.specs.declared.file_kind.FileKind.TheVariants.{Log}
 use Rattle.pb_keys.specs.Map.{Map}
@@ -13,11 +13,6 @@ use Rattle.pebble_cli.specs.Settings.{Set, IsSet, AreSets, payload_of, map_after
 -- the file of the log
 abbrev pub log_name : List ℕ
 log_name = file_name Log 3
-
--- the payloads of the log, none where it is absent
-abbrev pub payloads_in : Option (List ℕ) → List (List ℕ)
-payloads_in None = []
-payloads_in (Some bytes) = payloads bytes
 
 -- these payloads are commands, which make this count and map
 pub record Make (list : List (List ℕ)) (n : ℕ) (m : Map) : Type 0 where

@@ -10,7 +10,8 @@ use Rattle.pb_machine.specs.Marks.{Ran}
 use Rattle.pb_machine.specs.Lines.{line_after}
 use Rattle.pb_machine.specs.Runs.{states_after}
 use Rattle.pebble_cli.specs.Lines.{store_a}
-use Rattle.pebble_cli.specs.Folder.{log_name, payloads_in, Make, StandsFor}
+use Rattle.pb_gate_log.specs.Payloads.{payloads_in}
+use Rattle.pebble_cli.specs.Folder.{log_name, Make, StandsFor}
 
 -- each image of the folder stands for some count and map
 abbrev pub IsGood : Contents → Type 0

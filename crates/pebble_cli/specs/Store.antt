@@ -20,5 +20,7 @@ pub record Held : Type 0 where
 -- it is stored as the tuple of its fields
 abbrev pub held_code : Coded Held
 held_code =
-    code_by ((List ℕ × ℕ) × (ℕ × Map)) (coded× (coded× (coded_list coded_ℕ) coded_ℕ) (coded× coded_ℕ (code (coded_list coded_ℕ) (coded_list coded_ℕ))))
-    (λ h. ((h.log.file, h.log.gate), (h.count, h.map))) (λ p. record { log = record { file = p.0.0; gate = p.0.1 }; count = p.1.0; map = p.1.1 }) (λ _. refl)
+    code_by ((List ℕ × (ℕ × ℕ)) × (ℕ × Map))
+    (coded× (coded× (coded_list coded_ℕ) (coded× coded_ℕ coded_ℕ)) (coded× coded_ℕ (code (coded_list coded_ℕ) (coded_list coded_ℕ))))
+    (λ h. ((h.log.file, (h.log.gate, h.log.len)), (h.count, h.map)))
+    (λ p. record { log = record { file = p.0.0; gate = p.0.1.0; len = p.0.1.1 }; count = p.1.0; map = p.1.1 }) (λ _. refl)

@@ -12,7 +12,8 @@ use Rattle.pb_reply.specs.declared.reply.Reply.{Reply}
 use Rattle.pb_reply.specs.declared.reply.Reply.TheVariants as reply
 use Rattle.pb_machine.specs.States.{StoreState, is_open, is_down}
 use Rattle.pb_machine.specs.Marks.{Ran, refusal_of, count_of, has_more}
-use Rattle.pebble_cli.specs.Folder.{log_name, payloads_in, Make, KeepsLog}
+use Rattle.pb_gate_log.specs.Payloads.{payloads_in}
+use Rattle.pebble_cli.specs.Folder.{log_name, Make, KeepsLog}
 use Rattle.pebble_cli.specs.declared.step.Step.{Step}
 use Rattle.pebble_cli.specs.declared.step.Step.TheVariants as step
 use Rattle.pebble_cli.specs.declared.store.Store.{Store}

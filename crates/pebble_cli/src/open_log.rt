@@ -1,8 +1,9 @@
-ghost use Rattle.std.specs.Prelude.{◌≡◌, ℕ, ◌<◌, ◌≤◌, ◌^◌, ◌⊎◌, true, List, Option, Err, IsSome, IfOk, IfErr};
+ghost use Rattle.std.specs.Prelude.{◌≡◌, ℕ, ◌<◌, ◌≤◌, ◌^◌, ◌⊎◌, true, List, Option, Err, IfOk, IfErr};
 ghost use Rattle.pb_devices.specs.Contents.{IsSettled, MayLeave};
 ghost use Rattle.pb_devices.specs.Counts.{Rose};
 ghost use Rattle.pb_gate_log.specs.EachLog.{EachLog};
-ghost use Rattle.pebble_cli.specs.Folder.{log_name, payloads_in, Make, IsRead};
+ghost use Rattle.pb_gate_log.specs.Payloads.{payloads_in};
+ghost use Rattle.pebble_cli.specs.Folder.{log_name, Make, IsRead};
 ghost use Rattle.pebble_cli.specs.Settings.{Set, IsSet, payload_of};
 ghost use Rattle.pb_keys.specs.Map.{Map};
 
@@ -11,9 +12,9 @@ use crate::setting::read_setting;
 use crate::store_error::StoreError;
 use crate::word::Word;
 use pb_devices::{Disk, Fault};
-use pb_gate_log::GateLog;
+use pb_gate_log::{GateLog, open_or_create};
 use pb_keys::Bytes;
-use pb_names::{FileKind, Name, file};
+use pb_names::{FileKind, file};
 use std::alloc::Global;
 
 /// Opens the log of a store, or makes it where there is none, and gives its payloads. Nothing of it may be pending.
@@ -28,31 +29,7 @@ pub fn open_log<D: Disk>(alloc: Global, disk: &mut D) -> Result<(GateLog, Vec<By
     ensures later { D.fault_count disk.old ≤ D.fault_count disk.new }
     ensures fault { result ≡ Err StoreError.DiskFault → Rose (D.fault_count disk.old) (D.fault_count disk.new) }
 {
-    let name = file(FileKind::Log, 3);
-    if disk.len(name.as_str())?.is_some() {
-        return read_log(alloc, disk, name);
-    }
-    let log = GateLog::create(disk, name)?;
-    Ok((log, Vec::new(alloc)))
-}
-
-fn read_log<D: Disk>(
-    alloc: Global,
-    disk: &mut D,
-    name: Name,
-) -> Result<(GateLog, Vec<Bytes>), StoreError>
-    requires there { D.told ≡ true → IsSome ((D.contents disk.old).seen name) }
-    requires settled { D.told ≡ true → IsSettled (D.contents disk.old) name }
-    ensures file { IfOk result (λ opened. opened.0.file ≡ name) }
-    ensures list { D.told ≡ true → IfOk result (λ opened. opened.1.items ≡ payloads_in ((D.contents disk.old).seen name)) }
-    ensures log { D.told ≡ true → IfOk result (λ opened. EachLog opened.0 opened.1.items (D.contents disk.new)) }
-    ensures crash { D.told ≡ true → (image : Option (List ℕ)) → MayLeave (D.contents disk.new) name image
-        → payloads_in image ≡ payloads_in ((D.contents disk.old).seen name) }
-    ensures known { IfErr result (λ refusal. (refusal ≡ StoreError.DiskFault) ⊎ (refusal ≡ StoreError.NoMemory)) }
-    ensures later { D.fault_count disk.old ≤ D.fault_count disk.new }
-    ensures fault { result ≡ Err StoreError.DiskFault → Rose (D.fault_count disk.old) (D.fault_count disk.new) }
-{
-    match GateLog::open(alloc, disk, name) {
+    match open_or_create(alloc, disk, file(FileKind::Log, 3)) {
         Ok(opened) => Ok(opened),
         Err(Fault::Disk) => Err(StoreError::DiskFault),
         Err(_) => Err(StoreError::NoMemory),

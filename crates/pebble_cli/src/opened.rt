@@ -2,7 +2,8 @@ ghost use Rattle.std.specs.Prelude.{◌≡◌, ◌↔◌, ℕ, ◌+◌, ◌<◌,
 ghost use Rattle.std.specs.FinMap.{get, insert};
 ghost use Rattle.pb_devices.specs.Contents.{MayLeave};
 ghost use Rattle.pb_devices.specs.Counts.{Rose};
-ghost use Rattle.pebble_cli.specs.Folder.{log_name, payloads_in, HasFrom, KeepsLog, Make};
+ghost use Rattle.pb_gate_log.specs.Payloads.{payloads_in};
+ghost use Rattle.pebble_cli.specs.Folder.{log_name, HasFrom, KeepsLog, Make};
 ghost use Rattle.pb_keys.specs.Map.{Map};
 
 use crate::open_log::{open_log, read_sets};

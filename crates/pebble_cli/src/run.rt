@@ -2,7 +2,8 @@ ghost use Rattle.std.specs.Prelude.{◌≡◌, ◌+◌, ◌≤◌, ◌++◌, ◌
 ghost use Rattle.pb_devices.specs.Contents.{MayLeave};
 ghost use Rattle.pb_devices.specs.Counts.{Rose};
 ghost use Rattle.pebble_cli.specs.Lines.{first_fault};
-ghost use Rattle.pebble_cli.specs.Folder.{log_name, payloads_in, HasFrom};
+ghost use Rattle.pb_gate_log.specs.Payloads.{payloads_in};
+ghost use Rattle.pebble_cli.specs.Folder.{log_name, HasFrom};
 ghost use Rattle.pebble_cli.specs.Headline.{Headline, IsGood, IsSpoilt};
 ghost use Rattle.pb_machine.specs.States.{StoreState};
 ghost use Rattle.pebble_cli.specs.Steps.{as_line, step_after, step_reply};
@@ -174,7 +175,7 @@ fn run_steps<O: Sink, D: Disk>(
     ensures device { result ≡ Status.Device → Rose (D.fault_count disk.old) (D.fault_count disk.new) }
     ensures damaged { D.told ≡ true → has_damage trace.new.marks ≡ true → IsSpoilt (D.contents disk.old) }
 {
-    if trace.reserve(steps.len() as u64).is_err() {
+    if trace.reserve(alloc, steps.len() as u64).is_err() {
         return Status::Memory;
     }
     let mut store = Store::Closed;
@@ -220,5 +221,7 @@ fn run_step<D: Disk>(
 mod fault_tests;
 #[cfg(test)]
 mod headline_tests;
+#[cfg(test)]
+mod stopped_tests;
 #[cfg(test)]
 mod tests;

@@ -2,7 +2,8 @@ ghost use Rattle.std.specs.Prelude.{◌≡◌, ℕ, ◌≤◌, ◌⊎◌, true, 
 ghost use Rattle.pb_devices.specs.Contents.{MayLeave};
 ghost use Rattle.pb_devices.specs.Counts.{Rose};
 ghost use Rattle.pb_machine.specs.States.{StoreState, is_open};
-ghost use Rattle.pebble_cli.specs.Folder.{log_name, payloads_in, HasFrom};
+ghost use Rattle.pb_gate_log.specs.Payloads.{payloads_in};
+ghost use Rattle.pebble_cli.specs.Folder.{log_name, HasFrom};
 ghost use Rattle.pebble_cli.specs.Steps.{step_after, step_reply};
 ghost use Rattle.pebble_cli.specs.StoreStates.{IsIn, Keeps, Finds, IsSetBy, TellsFault, has_fallen, map_in, ran_of};
 

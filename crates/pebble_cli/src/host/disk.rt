@@ -73,7 +73,10 @@ impl Disk for HostDisk {
     fn list(&mut self, alloc: Global) -> Result<Vec<String>, ListError> {
         match self.folder.list(alloc) {
             Err(error) if error.kind() == ErrorKind::OutOfMemory => Err(ListError::NoMemory),
-            listed => self.counted(listed).map_err(|_| ListError::Failed),
+            listed => match self.counted(listed) {
+                Ok(names) => Ok(names),
+                Err(Failed) => Err(ListError::Failed),
+            },
         }
     }
 

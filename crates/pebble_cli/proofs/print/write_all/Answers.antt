@@ -1,4 +1,4 @@
-use Rattle.std.proofs.Common.{rules, arith}
+use Rattle.std.proofs.Common.{rules, ◌∙◌, arith}
 use Rattle.std.proofs.Math.Seq.{take-add}
 use Rattle.std.proofs.lemmas.Grind.{common_steps}
 use Rattle.pebble_cli.proofs.print.write_all.Goals as goal
@@ -12,5 +12,5 @@ loop-at-preserved g c =
           let got = c.in_ok-at.ensures.ok told in
           let so_far = c.loop-at.invariant.taken told in
           grind (arith, common_steps, sum, got, so_far);
-      later = search rules;
+      calm = c.in_ok-at.ensures.cause.calm tt ∙ c.loop-at.invariant.calm;
     }

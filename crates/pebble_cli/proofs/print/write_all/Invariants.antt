@@ -5,7 +5,7 @@ abbrev pub invariant-loop-at : goal.invariant-loop-at
 invariant-loop-at g l = record {
   within : l.at ≤ length l.text;
   taken : g.O.Sink.told ≡ true → g.O.Sink.taken l.out ≡ g.O.Sink.taken l.initial.out ++ take l.at l.text;
-  later : g.O.Sink.fault_count l.initial.out ≤ g.O.Sink.fault_count l.out;
+  calm : g.O.Sink.fault_count l.out ≡ g.O.Sink.fault_count l.initial.out;
 }
 
 abbrev pub decreases-loop-at : goal.decreases-loop-at

@@ -1,6 +1,7 @@
 use Rattle.std.proofs.Common.{Err, refl, ◌∙◌, sym, ap, subst, ℕ, List}
 use Rattle.pb_devices.proofs.Images.{stays_image}
-use Rattle.pebble_cli.specs.Folder.{log_name, payloads_in, Make}
+use Rattle.pb_gate_log.specs.Payloads.{payloads_in}
+use Rattle.pebble_cli.specs.Folder.{log_name, Make}
 use Rattle.pebble_cli.proofs.StoreFacts.{refused_same}
 use Rattle.pebble_cli.specs.declared.store_error.StoreError.TheVariants.{Damaged}
 use Rattle.pebble_cli.proofs.opened.Opened.open.Goals as goal

@@ -1,5 +1,6 @@
 use Rattle.std.proofs.Common.{List, ℕ, Err, ap, sym, subst}
-use Rattle.pebble_cli.specs.Folder.{log_name, payloads_in}
+use Rattle.pb_gate_log.specs.Payloads.{payloads_in}
+use Rattle.pebble_cli.specs.Folder.{log_name}
 use Rattle.pebble_cli.specs.StoreStates.{Finds, map_in}
 use Rattle.pb_reply.specs.declared.refusal.Refusal.{Refusal}
 use Rattle.pb_reply.specs.declared.reply.Reply.TheVariants.{Refused}

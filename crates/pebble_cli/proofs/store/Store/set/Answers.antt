@@ -1,6 +1,7 @@
 use Rattle.std.proofs.Common.{ℕ, ◌+◌, ◌⊎◌, ◌∙◌, Err, ap, inr, sym, subst}
 use Rattle.pb_keys.specs.Map.{Map}
-use Rattle.pebble_cli.specs.Folder.{payloads_in, HasFrom, Make}
+use Rattle.pb_gate_log.specs.Payloads.{payloads_in}
+use Rattle.pebble_cli.specs.Folder.{HasFrom, Make}
 use Rattle.pebble_cli.specs.StoreStates.{IsSetBy}
 use Rattle.pebble_cli.specs.declared.step.Step.TheVariants.{Set}
 use Rattle.pebble_cli.specs.declared.store.Store.{Store}

@@ -1,31 +1,10 @@
 -- The lesser and the greater of two byte strings: what is below them, and that both are ends where both strings are.
-use Rattle.std.proofs.Common.{◌≡◌, ℕ, List, Bool, true, false, cond, refl, sym, ap, ◌∙◌}
+use Rattle.std.proofs.Common.{◌≡◌, ℕ, List, true, false, cond, refl, ap}
 use Rattle.std.specs.Prelude.{◌&&◌, ◌||◌}
 use Rattle.pb_keys.specs.Order.{is_below, lesser, greater}
 use Rattle.pb_keys.specs.Span.{IsEnd}
 use Rattle.pb_keys.proofs.OrderFacts.{below_chain, below_upto, same_bytes}
-
--- what is below the lesser of two is below both
-both_below : (x y : Bool) → (y ≡ true → x ≡ true) → y ≡ (x && y)
-both_below true y h = refl
-both_below false true h = sym (h refl)
-both_below false false h = refl
-
-both_below_first : (x y : Bool) → (x ≡ true → y ≡ true) → x ≡ (x && y)
-both_below_first true true h = refl
-both_below_first true false h = cc (h refl)
-both_below_first false y h = refl
-
--- what is below the greater of two is below one of them
-one_below : (x y : Bool) → (x ≡ true → y ≡ true) → y ≡ (x || y)
-one_below true true h = refl
-one_below true false h = h refl
-one_below false y h = refl
-
-one_below_first : (x y : Bool) → (y ≡ true → x ≡ true) → x ≡ (x || y)
-one_below_first true y h = refl
-one_below_first false true h = cc (h refl)
-one_below_first false false h = refl
+use Rattle.pb_keys.proofs.Tests.{both_below, both_below_first, one_below, one_below_first}
 
 pub below-lesser : (p a b : List ℕ) → is_below p (lesser a b) ≡ (is_below p a && is_below p b)
 below-lesser p a b =

@@ -10,6 +10,7 @@ use Rattle.pb_keys.specs.Span.{KeySpan, IsEnd, IsSpan, has_no_at, is_end, is_spa
 use Rattle.pb_keys.specs.Value.{IsValue, is_value}
 use Rattle.pb_keys.specs.View.{KeyView, IsPrefix, IsSuffix, IsMapping, IsView, is_prefix, is_suffix, is_mapping, is_view}
 use Rattle.pb_keys.proofs.KeyFacts.{other_byte}
+use Rattle.std.proofs.lemmas.Bool.{and_from, and_parts}
 
 -- ---- tests of two and three parts
 
@@ -18,12 +19,6 @@ three a b c p q r = grind (arith, nat_tests)
 
 pub of_three : (a b c : Bool) → (a && b && c) ≡ true → (a ≡ true) × (b ≡ true) × (c ≡ true)
 of_three a b c e = grind (arith, nat_tests)
-
-two : (a b : Bool) → a ≡ true → b ≡ true → (a && b) ≡ true
-two a b p q = grind (arith, nat_tests)
-
-of_two : (a b : Bool) → (a && b) ≡ true → (a ≡ true) × (b ≡ true)
-of_two a b e = grind (arith, nat_tests)
 
 at_most : (n limit : ℕ) → n ≤ limit → nat_le n limit ≡ true
 at_most n limit h = grind (arith, nat_tests)
@@ -90,11 +85,11 @@ span_fails span fails =
 -- ---- what a view puts before keys and in the place of their suffixes
 
 pub prefix_tests : (bytes : List ℕ) → IsPrefix bytes → is_prefix bytes ≡ true
-prefix_tests bytes is = two (nat_le (length bytes) 1024) (has_no_at bytes) (at_most (length bytes) 1024 is.within) (plain_tests bytes is.plain)
+prefix_tests bytes is = and_from (nat_le (length bytes) 1024) (has_no_at bytes) (at_most (length bytes) 1024 is.within) (plain_tests bytes is.plain)
 
 pub prefix_says : (bytes : List ℕ) → is_prefix bytes ≡ true → IsPrefix bytes
 prefix_says bytes e =
-    let parts = of_two (nat_le (length bytes) 1024) (has_no_at bytes) e in
+    let parts = and_parts (nat_le (length bytes) 1024) (has_no_at bytes) e in
     record { within = of_at_most (length bytes) 1024 parts.0; plain = plain_says bytes parts.1 }
 
 suffix_says_some : (b : ℕ) (bs : List ℕ) → is_suffix (b ∷ bs) ≡ true → (length (b ∷ bs) ≤ 1024) × (b ≡ at_sign)
@@ -115,17 +110,17 @@ suffix_says [] e = inl refl
 suffix_says (b ∷ bs) e = inr (suffix_says_some b bs e)
 
 pub mapping_tests : (view : KeyView) → IsMapping view → is_mapping view ≡ true
-mapping_tests view is = two (is_prefix view.prefix) (is_suffix view.suffix) (prefix_tests view.prefix is.prefix) (suffix_tests view.suffix is.suffix)
+mapping_tests view is = and_from (is_prefix view.prefix) (is_suffix view.suffix) (prefix_tests view.prefix is.prefix) (suffix_tests view.suffix is.suffix)
 
 pub mapping_says : (view : KeyView) → is_mapping view ≡ true → IsMapping view
 mapping_says view e =
-    let parts = of_two (is_prefix view.prefix) (is_suffix view.suffix) e in
+    let parts = and_parts (is_prefix view.prefix) (is_suffix view.suffix) e in
     record { prefix = prefix_says view.prefix parts.0; suffix = suffix_says view.suffix parts.1 }
 
 pub view_tests : (view : KeyView) → IsView view → is_view view ≡ true
-view_tests view is = two (is_mapping view) (is_span view.bounds) (mapping_tests view is.mapping) (span_tests view.bounds is.bounds)
+view_tests view is = and_from (is_mapping view) (is_span view.bounds) (mapping_tests view is.mapping) (span_tests view.bounds is.bounds)
 
 pub view_says : (view : KeyView) → is_view view ≡ true → IsView view
 view_says view e =
-    let parts = of_two (is_mapping view) (is_span view.bounds) e in
+    let parts = and_parts (is_mapping view) (is_span view.bounds) e in
     record { mapping = mapping_says view parts.0; bounds = span_says view.bounds parts.1 }

@@ -4,3 +4,4 @@ pub mod MapFacts
 pub mod OrderFacts
 pub mod EndFacts
 pub mod SpanFacts
+pub mod Tests

@@ -1,18 +1,15 @@
 -- Maps, read at a key.
-use Rattle.std.proofs.Common.{◌≡◌, ℕ, List, Bool, true, false, cond, refl, ◌∙◌}
+use Rattle.std.proofs.Common.{◌≡◌, ℕ, List, cond, ◌∙◌}
 use Rattle.std.specs.Prelude.{not, None}
 use Rattle.std.specs.FinMap.{get, same_map, get-retain_keys}
 use Rattle.pb_keys.specs.KeyLaws.{key_cmp_total, key_cmp_exact}
 use Rattle.pb_keys.specs.Span.{KeySpan, holds_key}
 use Rattle.pb_keys.specs.Map.{Map, cut, without}
 use Rattle.pb_keys.proofs.SpanFacts.{alike_keys}
+use Rattle.pb_keys.proofs.Tests.{turned}
 
 pub get-cut : (m : Map) (span : KeySpan) (key : List ℕ) → get (cut m span) key ≡ cond (holds_key span key) (get m key) None
 get-cut m span key = get-retain_keys m (holds_key span) key (alike_keys (holds_key span) key)
-
-turned : {A : Type 0} (b : Bool) (x y : A) → cond (not b) x y ≡ cond b y x
-turned true x y = refl
-turned false x y = refl
 
 pub get-without : (m : Map) (span : KeySpan) (key : List ℕ) → get (without m span) key ≡ cond (holds_key span key) None (get m key)
 get-without m span key =

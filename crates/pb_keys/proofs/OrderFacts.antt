@@ -30,7 +30,7 @@ pub ruleset compares = (lt-is_below, le-is_upto)
 
 -- ---- the laws of a total order, by `is_below`: `is_below b a ≡ false` says that a is at most b
 
-less : (o : Ordering) → is_lt o ≡ true → o ≡ Less
+pub less : (o : Ordering) → is_lt o ≡ true → o ≡ Less
 less Less h = refl
 less Equal h = cc
 less Greater h = cc

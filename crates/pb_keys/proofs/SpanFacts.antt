@@ -1,12 +1,13 @@
 -- What a span holds.
-use Rattle.std.proofs.Common.{◌≡◌, ℕ, List, Bool, true, false, cond, ap, sym, refl}
-use Rattle.std.specs.Prelude.{◌&&◌}
+use Rattle.std.proofs.Common.{◌≡◌, ℕ, List, Bool, true, false, cond, ap, sym, refl, ◌∙◌}
+use Rattle.std.specs.Prelude.{not, ◌&&◌}
 use Rattle.std.specs.declared.cmp.Ordering.TheVariants.{Equal}
 use Rattle.pb_keys.specs.Order.{is_below, is_upto, lesser, greater}
 use Rattle.pb_keys.specs.Key.{prefix_of, key_cmp}
 use Rattle.pb_keys.specs.KeyLaws.{key_cmp_exact}
-use Rattle.pb_keys.specs.Span.{KeySpan, IsEnd, IsSpan, holds_key, overlap, joined}
+use Rattle.pb_keys.specs.Span.{KeySpan, IsSpan, holds_key, overlap, joined}
 use Rattle.pb_keys.proofs.OrderFacts.{below_itself, below_one_way, below_upto, upto_below}
+use Rattle.pb_keys.proofs.EndFacts.{lesser_is_end, greater_is_end}
 
 pub holds_key-ends : (span : KeySpan) (key : List ℕ) → holds_key span key ≡ (is_upto span.lo (prefix_of key) && is_below (prefix_of key) span.hi)
 unfolding holds_key
@@ -36,12 +37,6 @@ upto_greater a b =
       | false ↦ λ e. below_itself a
     ] refl
 
-lesser_is_end : (a b : List ℕ) → IsEnd a → IsEnd b → IsEnd (lesser a b)
-lesser_is_end a b is_a is_b = elim (is_below b a) as (λ t. IsEnd (cond t b a)) [ true ↦ is_b | false ↦ is_a ]
-
-greater_is_end : (a b : List ℕ) → IsEnd a → IsEnd b → IsEnd (greater a b)
-greater_is_end a b is_a is_b = elim (is_below a b) as (λ t. IsEnd (cond t b a)) [ true ↦ is_b | false ↦ is_a ]
-
 pub joined_is_span : (s t : KeySpan) → IsSpan s → IsSpan t → IsSpan (joined s t)
 joined_is_span s t is_s is_t =
     let lo = lesser s.lo t.lo in
@@ -51,3 +46,19 @@ joined_is_span s t is_s is_t =
       hi = greater_is_end s.hi t.hi is_s.hi is_t.hi;
       rises = below_upto lo s.hi hi (upto_below lo s.lo s.hi (lesser_upto s.lo t.lo) is_s.rises) (upto_greater s.hi t.hi);
     }
+
+-- ---- what a span holds lies between its ends
+
+part_lo : (a b : Bool) → (not a && b) ≡ true → a ≡ false
+part_lo true b h = cc
+part_lo false b h = refl
+
+part_hi : (a b : Bool) → (not a && b) ≡ true → b ≡ true
+part_hi true b h = cc
+part_hi false b h = h
+
+pub held_from : (s : KeySpan) (key : List ℕ) → holds_key s key ≡ true → is_below (prefix_of key) s.lo ≡ false
+held_from s key h = part_lo (is_below (prefix_of key) s.lo) (is_below (prefix_of key) s.hi) (sym (holds_key-ends s key) ∙ h)
+
+pub held_to : (s : KeySpan) (key : List ℕ) → holds_key s key ≡ true → is_below (prefix_of key) s.hi ≡ true
+held_to s key h = part_hi (is_below (prefix_of key) s.lo) (is_below (prefix_of key) s.hi) (sym (holds_key-ends s key) ∙ h)

@@ -9,6 +9,13 @@ use Rattle.pb_keys.specs.Order.{bytes_cmp}
 abbrev pub at_sign : ℕ
 at_sign = 64
 
+-- as many bytes as a key may have
+abbrev pub IsKeyLength : ℕ → Type 0
+IsKeyLength len = len ≤ 1024
+
+abbrev pub is_key_length : ℕ → Bool
+is_key_length len = nat_le len 1024
+
 -- 1 to 1,024 bytes that don't begin with '@'
 pub record IsKey (bytes : List ℕ) : Type 0 where
   pub some : 1 ≤ length bytes

@@ -11,6 +11,10 @@ pub record KeySpan : Type 0 where
 abbrev pub span_of : List ℕ → List ℕ → KeySpan
 span_of lo hi = record { lo = lo; hi = hi }
 
+-- as many bytes as an end may have
+abbrev pub IsEndLength : ℕ → Type 0
+IsEndLength len = len ≤ 1025
+
 -- 1 to 1,025 bytes without '@'
 pub record IsEnd (bytes : List ℕ) : Type 0 where
   pub some : 1 ≤ length bytes

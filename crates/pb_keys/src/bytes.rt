@@ -47,8 +47,7 @@ impl Bytes {
                 held: held_here(from),
             });
         }
-        let all = Vec::from_slice(alloc, from)?;
-        let apart = Box::new(alloc, all)?;
+        let apart = apart_of(alloc, from)?;
         Ok(Bytes {
             held: Held::Apart(apart),
         })
@@ -87,7 +86,11 @@ impl Bytes {
     pub fn copy(&self, alloc: Global) -> Result<Bytes, AllocError>
         ensures ok { IfOk result (λ bytes. bytes ≡ self.now) }
     {
-        Bytes::new(alloc, self.as_slice())
+        let held = match &self.held {
+            Held::Here(len, bytes) => Held::Here(*len, *bytes),
+            Held::Apart(bytes) => Held::Apart(apart_of(alloc, bytes.as_slice())?),
+        };
+        Ok(Bytes { held })
     }
 
     /// The bytes, in order.
@@ -110,6 +113,15 @@ fn held_here(from: &[u8]) -> Held
     let mut bytes = [0; ROOM];
     bytes[..from.len()].copy_from_slice(from);
     Held::Here(from.len() as u8, bytes)
+}
+
+/// A copy of the bytes in a block of its own.
+fn apart_of(alloc: Global, from: &[u8]) -> Result<Box<Vec<u8>>, AllocError>
+    ensures ok { IfOk result (λ apart. apart.value.items ≡ from.now) }
+{
+    let all = Vec::from_slice(alloc, from)?;
+    let apart = Box::new(alloc, all)?;
+    Ok(apart)
 }
 
 impl PartialEq for Bytes {

@@ -14,7 +14,7 @@ pub trait Copies: Drop + Sized {
 pub fn copy_all<T: Copies>(alloc: Global, items: &[T]) -> Result<Vec<T>, AllocError>
     ensures ok { IfOk result (λ copies. copies.items ≡ items.now) }
 {
-    let mut copies = Vec::new(alloc);
+    let mut copies = Vec::with_capacity(alloc, items.len())?;
     for item in items {
         let copy = item.copied(alloc)?;
         copies.push(copy)?;

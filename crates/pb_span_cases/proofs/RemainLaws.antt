@@ -12,6 +12,8 @@ use Rattle.pb_keys.proofs.EndFacts.{below-lesser, below-greater, greater_first, 
 use Rattle.pb_keys.proofs.OrderFacts.{below_one_way, below_upto, upto_below}
 use Rattle.pb_span_cases.specs.Remainder.{remains, ends_of}
 use Rattle.pb_span_cases.proofs.Remainders.{left_by, right_by, left_part, right_part}
+use Rattle.pb_keys.proofs.Tests.{or_false}
+use Rattle.std.proofs.lemmas.Bool.{and_from}
 
 -- ---- the keys: of a key's prefix p whether it is below each of four ends
 
@@ -19,10 +21,6 @@ use Rattle.pb_span_cases.proofs.Remainders.{left_by, right_by, left_part, right_
 held_where : (t : Bool) (s : KeySpan) (rest : List KeySpan) (key : List ℕ) → list_any (λ part. holds_key part key) (cond t (s ∷ []) [] ++ rest) ≡ ((t && holds_key s key) || list_any (λ part. holds_key part key) rest)
 held_where true s rest key = refl
 held_where false s rest key = refl
-
-or_false : (a : Bool) → (a || false) ≡ a
-or_false true = refl
-or_false false = refl
 
 -- a, b: below the table's ends; c, d: below the cut's; s: whether the table begins below the cut; e: whether it ends above it
 of_both : (a b c d s e : Bool) → (a ≡ false → c ≡ true → s ≡ true) → (d ≡ false → b ≡ true → e ≡ true)
@@ -70,15 +68,11 @@ held_by_remains table cut key =
 
 -- ---- the form
 
-both_so : (a b : Bool) → a ≡ true → b ≡ true → (a && b) ≡ true
-both_so true b p q = q
-both_so false b p q = cc
-
 front_in_form : (table cut : KeySpan) → IsSpan table → IsSpan cut → is_below table.lo cut.lo ≡ true → IsSpan (span_of table.lo (lesser table.hi cut.lo))
 front_in_form table cut table_is cut_is s = record {
   lo = table_is.lo;
   hi = lesser_is_end table.hi cut.lo table_is.hi cut_is.lo;
-  rises = below-lesser table.lo table.hi cut.lo ∙ both_so (is_below table.lo table.hi) (is_below table.lo cut.lo) table_is.rises s;
+  rises = below-lesser table.lo table.hi cut.lo ∙ and_from (is_below table.lo table.hi) (is_below table.lo cut.lo) table_is.rises s;
 }
 
 behind_in_form : (table cut : KeySpan) → IsSpan table → IsSpan cut → is_below cut.hi table.hi ≡ true → IsSpan (span_of (greater cut.hi table.lo) table.hi)

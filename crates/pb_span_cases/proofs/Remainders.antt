@@ -1,7 +1,7 @@
 -- What a cut leaves, by the order of the ends.
 use Rattle.std.proofs.Common.{◌≡◌, ℕ, List, Bool, true, false, refl, Some, None, ◌&&◌, ◌||◌}
 use Rattle.std.specs.Prelude.{not, if◌then◌else◌, IfSome}
-use Rattle.std.proofs.lemmas.Bool.{and_parts}
+use Rattle.std.proofs.lemmas.Bool.{and_parts, not-true}
 use Rattle.pb_keys.specs.Key.{prefix_of}
 use Rattle.pb_keys.specs.Order.{is_below, is_upto}
 use Rattle.pb_keys.specs.Span.{KeySpan, IsSpan, holds_key, overlap}
@@ -74,10 +74,6 @@ all_left false ha pb hb h = refl
 
 -- ---- the same of spans and a prefix p
 
-was_true : (t : Bool) → not t ≡ true → t ≡ false
-was_true true h = absurd (cc)
-was_true false h = refl
-
 -- below the cut's start, which is below the table's end
 to_end : (table cut : KeySpan) (p : List ℕ) → is_below cut.lo table.hi ≡ true → is_below p cut.lo ≡ true → is_below p table.hi ≡ true
 to_end table cut p overlaps off = below_chain p cut.lo table.hi off overlaps
@@ -90,7 +86,7 @@ from_start table cut p overlaps off =
 
 -- the table begins at or behind the cut's start
 cut_begins : (table cut : KeySpan) (p : List ℕ) → is_below table.lo cut.lo ≡ false → is_upto table.lo p ≡ true → is_below p cut.lo ≡ false
-cut_begins table cut p later from = upto_chain cut.lo table.lo p later (was_true (is_below p table.lo) from)
+cut_begins table cut p later from = upto_chain cut.lo table.lo p later (not-true (is_below p table.lo) from)
 
 -- the table ends at or before the cut's end
 cut_ends : (table cut : KeySpan) (p : List ℕ) → is_below cut.hi table.hi ≡ false → is_below p table.hi ≡ true → is_below p cut.hi ≡ true
@@ -100,7 +96,7 @@ cut_ends table cut p earlier to = below_upto p table.hi cut.hi to earlier
 apart : (table cut : KeySpan) (p : List ℕ) → (is_below table.lo cut.hi && is_below cut.lo table.hi) ≡ false
     → is_upto table.lo p ≡ true → is_below p table.hi ≡ true → is_below p cut.lo ≡ false → is_below p cut.hi ≡ true → ⊥
 apart table cut p off la ha pb hb =
-    let first = upto_below table.lo p cut.hi (was_true (is_below p table.lo) la) hb in
+    let first = upto_below table.lo p cut.hi (not-true (is_below p table.lo) la) hb in
     let second = upto_below cut.lo p table.hi pb ha in
     let both : (is_below table.lo cut.hi && is_below cut.lo table.hi) ≡ true = rw (first, second) refl in
     cc

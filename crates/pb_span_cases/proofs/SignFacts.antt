@@ -1,5 +1,5 @@
 -- Which of the thirteen relations two spans have, by four comparisons of their ends.
-use Rattle.std.proofs.Common.{◌≡◌, ℕ, List, true, refl, sym, ap, ◌∙◌}
+use Rattle.std.proofs.Common.{◌≡◌, ℕ, List, refl, sym, ap, ◌∙◌}
 use Rattle.std.specs.declared.cmp.Ordering.{Ordering}
 use Rattle.std.specs.declared.cmp.Ordering.TheVariants.{Less, Equal, Greater}
 use Rattle.std.specs.Cmp.{tied_itself}
@@ -8,18 +8,13 @@ use Rattle.std.specs.Ordering.{is_lt, ordering_reverse}
 use Rattle.pb_keys.specs.Order.{bytes_cmp, is_below}
 use Rattle.pb_keys.specs.KeyLaws.{bytes_cmp_exact}
 use Rattle.pb_keys.specs.Span.{KeySpan, IsSpan}
-use Rattle.pb_keys.proofs.OrderFacts.{below_chain}
+use Rattle.pb_keys.proofs.OrderFacts.{below_chain, less}
 use Rattle.pb_span_cases.specs.Relation.{◌≺◌, IsCase}
 use Rattle.pb_span_cases.specs.Signs.{Signs, signs_of}
 use Rattle.pb_span_cases.specs.declared.relations.Rel.{Rel}
 use Rattle.pb_span_cases.specs.declared.relations.Rel.TheVariants as rels
 
 -- ---- the order of ends
-
-pub less : (o : Ordering) → is_lt o ≡ true → o ≡ Less
-less Less h = refl
-less Equal h = absurd (cc)
-less Greater h = absurd (cc)
 
 pub below : (x y : List ℕ) → x ≺ y → bytes_cmp x y ≡ Less
 below x y h = less (bytes_cmp x y) h

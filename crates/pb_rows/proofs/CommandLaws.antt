@@ -13,7 +13,7 @@ use Rattle.pb_rows.specs.ChangingLayers.{row_of, row_of_pair, layer_of_changing,
 use Rattle.pb_rows.specs.Layer.{KeyLayer, layer_of}
 use Rattle.pb_rows.specs.Over.{over, over_all}
 use Rattle.pb_rows.specs.Verdict.{verdict}
-use Rattle.pb_rows.proofs.Tests.{or_false}
+use Rattle.pb_keys.proofs.Tests.{or_false}
 use Rattle.pb_rows.proofs.VerdictLaws.{get-without_all, get-applied_newest_first, verdict-over}
 use Rattle.pb_rows.proofs.ChangingLaws.{get-applied_in_turn}
 use Rattle.pb_rows.proofs.LayeringLaws.{applied-over, applied-over_all}

@@ -10,8 +10,8 @@ use Rattle.pb_keys.specs.Order.{is_below, lesser, greater}
 use Rattle.pb_keys.specs.Key.{IsKey, key_cmp, prefix_of}
 use Rattle.pb_keys.specs.Span.{KeySpan, IsSpan, span_of, joined, holds_key, overlap}
 use Rattle.pb_keys.proofs.KeyFacts.{prefixes_are_span}
-use Rattle.pb_keys.proofs.OrderFacts.{below_itself, below_one_way, below_upto, upto_chain, below-end_above}
-use Rattle.pb_keys.proofs.SpanFacts.{holds_key-ends, lesser_upto, upto_greater, joined_is_span}
+use Rattle.pb_keys.proofs.OrderFacts.{below_itself, below_upto, upto_chain, below-end_above}
+use Rattle.pb_keys.proofs.SpanFacts.{holds_key-ends, lesser_upto, upto_greater, joined_is_span, held_from, held_to}
 use Rattle.pb_rows.specs.Hull.{span_at, either_hull, hull_of_spans, hull_of}
 use Rattle.pb_rows.specs.Layer.{KeyRow, KeyLayer, IsLayer}
 use Rattle.pb_rows.specs.Verdict.{row_verdict, is_covered, verdict}
@@ -90,20 +90,6 @@ hull_keeps P join (s ∷ ss) hull are is =
 both_parts : (a b : Bool) → a ≡ false → b ≡ true → (not a && b) ≡ true
 both_parts true b h k = cc
 both_parts false b h k = k
-
-part_lo : (a b : Bool) → (not a && b) ≡ true → a ≡ false
-part_lo true b h = cc
-part_lo false b h = refl
-
-part_hi : (a b : Bool) → (not a && b) ≡ true → b ≡ true
-part_hi true b h = cc
-part_hi false b h = h
-
-pub held_from : (s : KeySpan) (key : List ℕ) → holds_key s key ≡ true → is_below (prefix_of key) s.lo ≡ false
-held_from s key h = part_lo (is_below (prefix_of key) s.lo) (is_below (prefix_of key) s.hi) (sym (holds_key-ends s key) ∙ h)
-
-pub held_to : (s : KeySpan) (key : List ℕ) → holds_key s key ≡ true → is_below (prefix_of key) s.hi ≡ true
-held_to s key h = part_hi (is_below (prefix_of key) s.lo) (is_below (prefix_of key) s.hi) (sym (holds_key-ends s key) ∙ h)
 
 pub holds_between : (s : KeySpan) (key : List ℕ) → is_below (prefix_of key) s.lo ≡ false → is_below (prefix_of key) s.hi ≡ true → holds_key s key ≡ true
 holds_between s key from to = holds_key-ends s key ∙ both_parts (is_below (prefix_of key) s.lo) (is_below (prefix_of key) s.hi) from to

@@ -1,5 +1,5 @@
 -- Hulls: of two lists, and of a list whose ends ascend.
-use Rattle.std.proofs.Common.{◌≡◌, ℕ, suc, ◌-◌, ◌<◌, List, [], ◌∷◌, ◌++◌, length, get_or, true, false, cond, refl, sym, ap, ◌∙◌, subst, arith, inl, inr}
+use Rattle.std.proofs.Common.{◌≡◌, ℕ, suc, ◌-◌, ◌<◌, List, [], ◌∷◌, ◌++◌, length, get_or, true, false, refl, sym, ap, ◌∙◌, subst, arith, inl, inr}
 use Rattle.std.specs.Prelude.{Option, Some, None, map, All, ◌↔◌, ◌&&◌, ◌||◌}
 use Rattle.std.proofs.lemmas.Bool.{cases_lt}
 use Rattle.std.proofs.lemmas.List.{get_or_default}
@@ -10,9 +10,9 @@ use Rattle.pb_keys.proofs.OrderFacts.{below_itself, below_one_way, below_upto, b
 use Rattle.pb_keys.proofs.KeyFacts.{prefixes_ascend, ends_above_ascend, prefixes_are_span}
 use Rattle.pb_rows.specs.Layer.{KeyRow, KeyLayer, layer_of, AreApart, Rise}
 use Rattle.pb_rows.specs.Hull.{either_hull, hull_of_spans, hull_of, span_at}
-use Rattle.pb_rows.proofs.Bits.{both_groups, either_groups}
+use Rattle.pb_keys.proofs.Tests.{both_groups, either_groups}
 use Rattle.pb_rows.proofs.LookLaws.{rows_rise, spans_follow}
-use Rattle.pb_rows.proofs.SpanLaws.{below-lesser, below-greater}
+use Rattle.pb_keys.proofs.EndFacts.{below-lesser, below-greater, lesser_first, greater_second}
 
 -- what the same bytes are below is the same
 same_if_alike : (a b : List ℕ) → ((p : List ℕ) → is_below p a ≡ is_below p b) → a ≡ b
@@ -45,16 +45,6 @@ hull_of_spans-append (s ∷ ss) ts = ap (either_hull (Some s)) (hull_of_spans-ap
 pub record Ascends (s t : KeySpan) : Type 0 where
   pub lo : is_below t.lo s.lo ≡ false
   pub hi : is_below t.hi s.hi ≡ false
-
-lesser_first : (a b : List ℕ) → is_below b a ≡ false → lesser a b ≡ a
-lesser_first a b h = ap (λ t. cond t b a) h
-
-greater_second : (a b : List ℕ) → is_below b a ≡ false → greater a b ≡ b
-greater_second a b h =
-    elim (is_below a b) as (λ t. is_below a b ≡ t → cond t b a ≡ b) [
-      | true ↦ λ e. refl
-      | false ↦ λ e. same_bytes a b e h
-    ] refl
 
 -- spans made of a list whose ends ascend: from the start of the first to the end of the last
 pub hull_at_ends : {X : Type 0} (f : X → KeySpan) (x : X) (xs : List X) → ((i j : ℕ) (d : X) → i < j → j < length (x ∷ xs) → Ascends (f (get_or (x ∷ xs) i d)) (f (get_or (x ∷ xs) j d))) → (d : X) → hull_of_spans (map f (x ∷ xs)) ≡ Some (span_of (f x).lo (f (get_or (x ∷ xs) (length xs) d)).hi)

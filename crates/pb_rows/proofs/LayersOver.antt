@@ -8,7 +8,7 @@ use Rattle.pb_keys.specs.Span.{KeySpan, IsSpan}
 use Rattle.pb_rows.specs.Layer.{KeyRow, KeyLayer, layer_of, IsLayer, IsShortRow, AreApart}
 use Rattle.pb_rows.specs.Over.{union_of, rows_over, over, over_all}
 use Rattle.pb_rows.specs.Verdict.{Verdict, row_verdict, is_covered}
-use Rattle.pb_rows.proofs.Bits.{either_groups}
+use Rattle.pb_keys.proofs.Tests.{either_groups}
 use Rattle.pb_rows.proofs.NormalSpans.{normal_from_apart, spans_from_normal, apart_from_normal, normal-union_of, same_normal}
 use Rattle.pb_rows.proofs.RowLaws.{row_verdict-rows_over, row_verdict-filter}
 use Rattle.pb_rows.proofs.RowsOver.{all-rows_over, short_rows, rows_rise_over}

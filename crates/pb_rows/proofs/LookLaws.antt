@@ -3,21 +3,21 @@ use Rattle.std.proofs.Common.{◌≡◌, ◌≢◌, ℕ, zero, suc, ◌+◌, ◌
 use Rattle.std.specs.Prelude.{Some, None, All, not, ◌&&◌}
 use Rattle.std.specs.List.{AllAdjacentBelow}
 use Rattle.std.specs.List.Sorted.{IsPartitionPoint, IsPartitionedBy}
-use Rattle.std.specs.declared.cmp.Ordering.{Ordering}
-use Rattle.std.specs.declared.cmp.Ordering.TheVariants.{Less, Equal, Greater}
+use Rattle.std.specs.declared.cmp.Ordering.TheVariants.{Less}
 use Rattle.std.specs.Ordering.{eq_by_cmp, is_eq, is_lt, ordering_reverse}
-use Rattle.std.proofs.lemmas.Bool.{cases_lt, cases_eq}
+use Rattle.std.proofs.lemmas.Bool.{cases_lt, cases_eq, not-true, not-false}
 use Rattle.std.proofs.lemmas.List.{get_or_default}
 use Rattle.std.proofs.lemmas.List.Folds.{list_any_none, list_any_at}
 use Rattle.pb_keys.specs.Order.{is_below, is_upto}
 use Rattle.pb_keys.specs.Key.{key_cmp, prefix_of}
 use Rattle.pb_keys.specs.KeyLaws.{key_cmp_total}
 use Rattle.pb_keys.specs.Span.{KeySpan, IsSpan, holds_key}
-use Rattle.pb_keys.proofs.OrderFacts.{below_chain, below_one_way, upto_chain}
+use Rattle.pb_keys.proofs.OrderFacts.{below_chain, below_one_way, upto_chain, less}
 use Rattle.pb_keys.proofs.SpanFacts.{holds_key-ends}
 use Rattle.pb_rows.specs.Layer.{KeyRow, AreApart, EndsBelow, Rise, IsBelow}
 use Rattle.pb_rows.specs.Verdict.{row_verdict, is_covered}
 use Rattle.pb_rows.proofs.RowLaws.{same_key, ties_itself}
+use Rattle.std.proofs.lemmas.Bool.{and_right}
 
 module _ {X : Type 0} (R : X → X → Type 0) (chain : (x y z : X) → R x y → R y z → R x z) where
   -- what holds of neighbours and chains holds of each element and each later one
@@ -35,11 +35,6 @@ module _ {X : Type 0} (R : X → X → Type 0) (chain : (x y z : X) → R x y �
 pub rows_rise : (rows : List KeyRow) → Rise rows → (i j : ℕ) (d : KeyRow) → i < j → j < length rows → IsBelow (get_or rows i d) (get_or rows j d)
 rows_rise rows rise i j d h k = far IsBelow (λ x y z p q. key_cmp_total.trans x.key y.key z.key p q) rows rise i j d h k
 
-is_less : (o : Ordering) → is_lt o ≡ true → o ≡ Less
-is_less Less h = refl
-is_less Equal h = cc
-is_less Greater h = cc
-
 -- whether the row's key is below this one
 abbrev pub is_row_below : List ℕ → KeyRow → Bool
 is_row_below key row = is_lt (key_cmp row.key key)
@@ -47,7 +42,7 @@ is_row_below key row = is_lt (key_cmp row.key key)
 pub rows_are_parted : (rows : List KeyRow) (key : List ℕ) → Rise rows → IsPartitionedBy (is_row_below key) rows
 rows_are_parted rows key rise i j d h k below =
     elim (cases_lt i j) [
-      | inl before ↦ ap is_lt (key_cmp_total.trans (get_or rows i d).key (get_or rows j d).key key (rows_rise rows rise i j d before k) (is_less (key_cmp (get_or rows j d).key key) below))
+      | inl before ↦ ap is_lt (key_cmp_total.trans (get_or rows i d).key (get_or rows j d).key key (rows_rise rows rise i j d before k) (less (key_cmp (get_or rows j d).key key) below))
       | inr past ↦ let same : j ≡ i = omega arith in subst (λ n. is_row_below key (get_or rows n d) ≡ true) same below
     ]
 
@@ -77,13 +72,13 @@ row_verdict_none (row ∷ rows) key d other =
 -- at the place that parts the rows at a key
 pub row_found : (rows : List KeyRow) (key : List ℕ) (at : ℕ) (d : KeyRow) → IsPartitionPoint (λ r. is_row_below key r ≡ true) (λ r. is_row_below key r ≡ false) rows at → at < length rows → (get_or rows at d).key ≡ key → row_verdict rows key ≡ Some (get_or rows at d).value
 row_found rows key at d parted within same =
-    row_verdict_at rows key at d (λ k h. other_if_less (get_or rows k d).key key (is_less (key_cmp (get_or rows k d).key key) (parted.0 k d (omega arith) h))) within same
+    row_verdict_at rows key at d (λ k h. other_if_less (get_or rows k d).key key (less (key_cmp (get_or rows k d).key key) (parted.0 k d (omega arith) h))) within same
 
 pub row_missing : (rows : List KeyRow) (key : List ℕ) (at : ℕ) (d : KeyRow) → Rise rows → IsPartitionPoint (λ r. is_row_below key r ≡ true) (λ r. is_row_below key r ≡ false) rows at → (at < length rows → (get_or rows at d).key ≡ key → ⊥) → row_verdict rows key ≡ None
 row_missing rows key at d rise parted differ =
     row_verdict_none rows key d (λ k within.
     elim (cases_lt k at) [
-      | inl before ↦ other_if_less (get_or rows k d).key key (is_less (key_cmp (get_or rows k d).key key) (parted.0 k d (omega arith) before))
+      | inl before ↦ other_if_less (get_or rows k d).key key (less (key_cmp (get_or rows k d).key key) (parted.0 k d (omega arith) before))
       | inr past ↦ other_if_not_same (get_or rows k d).key key (λ same.
           elim (cases_lt at k) [
             | inl after ↦
@@ -114,33 +109,21 @@ spans_follow spans are apart i j d h k =
 pub spans_apart : (spans : List KeySpan) → All IsSpan spans → AreApart spans → (i j : ℕ) (d : KeySpan) → i < j → j < length spans → EndsBelow (get_or spans i d) (get_or spans j d)
 spans_apart spans are apart i j d h k = (spans_follow spans are apart i j d h k).apart
 
-not_so : (b : Bool) → not b ≡ true → b ≡ false
-not_so true h = cc
-not_so false h = refl
-
 pub spans_are_parted : (spans : List KeySpan) (prefix : List ℕ) → All IsSpan spans → AreApart spans → IsPartitionedBy (is_span_below prefix) spans
 spans_are_parted spans prefix are apart i j d h k below =
     elim (cases_lt i j) [
       | inl before ↦
           let s = get_or spans i d in let t = get_or spans j d in
           let f = spans_follow spans are apart i j d before k in
-          ap not (upto_chain s.hi t.hi prefix (below_one_way s.hi t.hi (below_chain s.hi t.lo t.hi f.apart f.rises)) (not_so (is_below prefix t.hi) below))
+          ap not (upto_chain s.hi t.hi prefix (below_one_way s.hi t.hi (below_chain s.hi t.lo t.hi f.apart f.rises)) (not-true (is_below prefix t.hi) below))
       | inr past ↦ let same : j ≡ i = omega arith in subst (λ n. is_span_below prefix (get_or spans n d) ≡ true) same below
     ]
 
-none_of_both : (a b : Bool) → b ≡ false → (a && b) ≡ false
-none_of_both true b h = h
-none_of_both false b h = refl
-
 ends_before : (span : KeySpan) (key : List ℕ) → is_span_below (prefix_of key) span ≡ true → holds_key span key ≡ false
-ends_before span key h = holds_key-ends span key ∙ none_of_both (is_upto span.lo (prefix_of key)) (is_below (prefix_of key) span.hi) (not_so (is_below (prefix_of key) span.hi) h)
+ends_before span key h = holds_key-ends span key ∙ and_right (is_upto span.lo (prefix_of key)) (is_below (prefix_of key) span.hi) (not-true (is_below (prefix_of key) span.hi) h)
 
 begins_behind : (span : KeySpan) (key : List ℕ) → is_below (prefix_of key) span.lo ≡ true → holds_key span key ≡ false
 begins_behind span key h = holds_key-ends span key ∙ ap (λ b. not b && is_below (prefix_of key) span.hi) h
-
-so_not : (b : Bool) → not b ≡ false → b ≡ true
-so_not true h = refl
-so_not false h = cc
 
 -- the spans but the one at the place that parts them hold no such key
 pub others_hold_not : (spans : List KeySpan) (key : List ℕ) (at : ℕ) → All IsSpan spans → AreApart spans → IsPartitionPoint (λ s. is_span_below (prefix_of key) s ≡ true) (λ s. is_span_below (prefix_of key) s ≡ false) spans at → (k : ℕ) (d : KeySpan) → k < length spans → k ≢ at → holds_key (get_or spans k d) key ≡ false
@@ -151,7 +134,7 @@ others_hold_not spans key at are apart parted k d within other =
           let after : at < k = omega arith in
           begins_behind (get_or spans k d) key
           (below_chain (prefix_of key) (get_or spans at d).hi (get_or spans k d).lo
-          (so_not (is_below (prefix_of key) (get_or spans at d).hi) (parted.1 at d (omega arith) (omega arith))) (spans_apart spans are apart at k d after within))
+          (not-false (is_below (prefix_of key) (get_or spans at d).hi) (parted.1 at d (omega arith) (omega arith))) (spans_apart spans are apart at k d after within))
     ]
 
 pub covered_here : (spans : List KeySpan) (key : List ℕ) (at : ℕ) (d : KeySpan) → All IsSpan spans → AreApart spans → IsPartitionPoint (λ s. is_span_below (prefix_of key) s ≡ true) (λ s. is_span_below (prefix_of key) s ≡ false) spans at → at < length spans → holds_key (get_or spans at d) key ≡ is_covered spans key

@@ -7,19 +7,17 @@ use Rattle.std.specs.Ordering.{ordering_then, nat_cmp, is_lt}
 use Rattle.std.specs.Cmp.{tied_itself, nat_cmp_total}
 use Rattle.std.specs.Cmp.Lexicographic.{nat_list_cmp_total}
 use Rattle.std.specs.FinMap.{nat_cmp-IsAntisymmetric}
-use Rattle.std.proofs.lemmas.Bool.Decides.{nat_tests}
 use Rattle.std.proofs.lemmas.List.Elements.{All-head, All-tail}
+use Rattle.std.proofs.Math.Seq.{take-append-add, drop-append-add}
 use Rattle.pb_keys.specs.Order.{bytes_cmp, is_below}
 use Rattle.pb_keys.specs.Key.{at_sign, suffix_start, prefix_of, suffix_of, key_cmp}
 use Rattle.pb_keys.specs.Span.{KeySpan, holds_key}
 use Rattle.pb_keys.specs.View.{KeyView, IsSuffix, IsMapping}
 use Rattle.pb_keys.proofs.KeyFacts.{prefix_is_plain}
 use Rattle.pb_rows.specs.Viewed.{with_suffix, mapped_key, mapped_span}
+use Rattle.pb_keys.proofs.KeyFacts.{other_byte}
 
 -- ---- behind bytes without '@'
-
-other_byte : (b : ℕ) → b ≢ at_sign → (b == at_sign) ≡ false
-other_byte b h = grind (arith, nat_tests)
 
 pub suffix_start-behind : (p key : List ℕ) → All (λ b. b ≢ at_sign) p → suffix_start (p ++ key) ≡ length p + suffix_start key
 suffix_start-behind [] key plain = omega arith
@@ -28,23 +26,11 @@ suffix_start-behind (b ∷ bs) key plain =
     let counted : 1 + suffix_start (bs ++ key) ≡ suc (length bs) + suffix_start key = omega arith in
     ap (λ t. cond (not t) (1 + suffix_start (bs ++ key)) 0) (other_byte b (All-head (λ c. c ≢ at_sign) b bs plain)) ∙ counted
 
-take-behind : (p : List ℕ) (n : ℕ) (key : List ℕ) → take (length p + n) (p ++ key) ≡ p ++ take n key
-take-behind [] n key = ap (λ k. take k key) (let e : 0 + n ≡ n = omega arith in e)
-take-behind (b ∷ bs) n key =
-    let e : suc (length bs) + n ≡ suc (length bs + n) = omega arith in
-    ap (λ k. take k (b ∷ (bs ++ key))) e ∙ ap (λ r. b ∷ r) (take-behind bs n key)
-
-drop-behind : (p : List ℕ) (n : ℕ) (key : List ℕ) → drop (length p + n) (p ++ key) ≡ drop n key
-drop-behind [] n key = ap (λ k. drop k key) (let e : 0 + n ≡ n = omega arith in e)
-drop-behind (b ∷ bs) n key =
-    let e : suc (length bs) + n ≡ suc (length bs + n) = omega arith in
-    ap (λ k. drop k (b ∷ (bs ++ key))) e ∙ drop-behind bs n key
-
 pub prefix_of-behind : (p key : List ℕ) → All (λ b. b ≢ at_sign) p → prefix_of (p ++ key) ≡ p ++ prefix_of key
-prefix_of-behind p key plain = ap (λ n. take n (p ++ key)) (suffix_start-behind p key plain) ∙ take-behind p (suffix_start key) key
+prefix_of-behind p key plain = ap (λ n. take n (p ++ key)) (suffix_start-behind p key plain) ∙ take-append-add p key (suffix_start key)
 
 pub suffix_of-behind : (p key : List ℕ) → All (λ b. b ≢ at_sign) p → suffix_of (p ++ key) ≡ suffix_of key
-suffix_of-behind p key plain = ap (λ n. drop n (p ++ key)) (suffix_start-behind p key plain) ∙ drop-behind p (suffix_start key) key
+suffix_of-behind p key plain = ap (λ n. drop n (p ++ key)) (suffix_start-behind p key plain) ∙ drop-append-add p key (suffix_start key)
 
 -- bytes without '@' are a prefix
 pub plain_prefix : (p : List ℕ) → All (λ b. b ≢ at_sign) p → prefix_of p ≡ p

@@ -1,5 +1,5 @@
 -- Lists of spans that ascend and neither overlap nor touch, by recursion, and that one alone holds the same keys.
-use Rattle.std.proofs.Common.{◌≡◌, ℕ, zero, suc, ◌+◌, List, [], ◌∷◌, length, get_or, Bool, true, false, cond, refl, sym, ap, ◌∙◌, subst, arith}
+use Rattle.std.proofs.Common.{◌≡◌, ℕ, zero, suc, ◌+◌, List, [], ◌∷◌, length, get_or, true, false, cond, refl, sym, ap, ◌∙◌, subst, arith}
 use Rattle.std.specs.Prelude.{All, not, ◌&&◌, ◌||◌}
 use Rattle.std.proofs.lemmas.List.Elements.{All-cons, All-head, All-tail, All-nil, All-weaker}
 use Rattle.std.proofs.lemmas.List.{take_all}
@@ -13,8 +13,9 @@ use Rattle.pb_rows.specs.Layer.{AreApart, EndsBelow}
 use Rattle.pb_rows.specs.Over.{with_span, union_of}
 use Rattle.pb_rows.specs.Verdict.{is_covered}
 use Rattle.pb_rows.proofs.LookLaws.{spans_apart}
-use Rattle.pb_rows.proofs.SpanLaws.{below-lesser}
-use Rattle.pb_rows.proofs.Tests.{both_true, not_so, not_true}
+use Rattle.pb_keys.proofs.EndFacts.{below-lesser}
+use Rattle.pb_keys.proofs.SpanFacts.{held_from, held_to}
+use Rattle.std.proofs.lemmas.Bool.{and_from, false_from_ne_true}
 
 -- each span begins above these bytes
 abbrev pub Above : List ℕ → List KeySpan → Type 0
@@ -51,10 +52,6 @@ apart_from_normal (s ∷ ss) normal (suc k) d h =
 pub above_less : (a b : List ℕ) (spans : List KeySpan) → is_below a b ≡ true → Above b spans → Above a spans
 above_less a b spans h above = All-weaker (λ span. is_below b span.lo ≡ true) (λ span. is_below a span.lo ≡ true) (λ s k. below_chain a b s.lo h k) spans above
 
-both_so : (a b : Bool) → a ≡ true → b ≡ true → (a && b) ≡ true
-both_so true b p q = q
-both_so false b p q = cc
-
 above-with_span : (bytes : List ℕ) (s : KeySpan) (ts : List KeySpan) → is_below bytes s.lo ≡ true → Above bytes ts → Above bytes (with_span s ts)
 above-with_span bytes s [] h above = All-cons (λ span. is_below bytes span.lo ≡ true) s [] h above
 above-with_span bytes s (t ∷ ts) h above =
@@ -65,7 +62,7 @@ above-with_span bytes s (t ∷ ts) h above =
       | true ↦ All-cons P s (t ∷ ts) h above
       | false ↦ elim (is_below t.hi s.lo) as (λ b. Above bytes (cond b (t ∷ with_span s ts) (with_span (joined s t) ts))) [
         | true ↦ All-cons P t (with_span s ts) first (above-with_span bytes s ts h rest)
-        | false ↦ above-with_span bytes (joined s t) ts (below-lesser bytes s.lo t.lo ∙ both_so (is_below bytes s.lo) (is_below bytes t.lo) h first) rest
+        | false ↦ above-with_span bytes (joined s t) ts (below-lesser bytes s.lo t.lo ∙ and_from (is_below bytes s.lo) (is_below bytes t.lo) h first) rest
       ]
     ]
 
@@ -92,16 +89,10 @@ end_is_prefix bytes is =
     let at : length bytes ≡ suffix_start bytes = suffix_start_is bytes (length bytes) (omega arith) (λ k h. is.plain k 0 h) (λ h. absurd (omega arith)) in
     take_all (suffix_start bytes) bytes (omega arith)
 
-held_from : (s : KeySpan) (key : List ℕ) → holds_key s key ≡ true → is_below (prefix_of key) s.lo ≡ false
-held_from s key h = not_so (is_below (prefix_of key) s.lo) ((both_true (is_upto s.lo (prefix_of key)) (is_below (prefix_of key) s.hi) (sym (holds_key-ends s key) ∙ h)).first)
-
-held_to : (s : KeySpan) (key : List ℕ) → holds_key s key ≡ true → is_below (prefix_of key) s.hi ≡ true
-held_to s key h = (both_true (is_upto s.lo (prefix_of key)) (is_below (prefix_of key) s.hi) (sym (holds_key-ends s key) ∙ h)).second
-
 -- a span holds the end of another as a key, where it lies between its own ends
 holds_end : (s : KeySpan) (bytes : List ℕ) → IsEnd bytes → is_below bytes s.lo ≡ false → is_below bytes s.hi ≡ true → holds_key s bytes ≡ true
 holds_end s bytes is from to =
-    holds_key-ends s bytes ∙ (λ i. is_upto s.lo (end_is_prefix bytes is i) && is_below (end_is_prefix bytes is i) s.hi) ∙ both_so (is_upto s.lo bytes) (is_below bytes s.hi) (ap not from) to
+    holds_key-ends s bytes ∙ (λ i. is_upto s.lo (end_is_prefix bytes is i) && is_below (end_is_prefix bytes is i) s.hi) ∙ and_from (is_upto s.lo bytes) (is_below bytes s.hi) (ap not from) to
 
 covered_above : (bytes : List ℕ) (spans : List KeySpan) (key : List ℕ) → Above bytes spans → is_covered spans key ≡ true → is_below bytes (prefix_of key) ≡ true
 covered_above bytes [] key above h = cc
@@ -121,7 +112,7 @@ covered_from s ss key normal h =
 -- behind a span the others hold none of its keys
 others_hold_none : (s : KeySpan) (ss : List KeySpan) (key : List ℕ) → Above s.hi ss → is_below (prefix_of key) s.hi ≡ true → is_covered ss key ≡ false
 others_hold_none s ss key above h =
-    not_true (is_covered ss key) (λ e.
+    false_from_ne_true (is_covered ss key) (λ e.
     let past : is_below s.hi (prefix_of key) ≡ true = covered_above s.hi ss key above e in
     let back : is_below (prefix_of key) s.hi ≡ false = below_one_way s.hi (prefix_of key) past in
     cc)
@@ -136,11 +127,11 @@ begins_first s t ss ts ns nt alike =
 -- and it ends no earlier
 ends_last : (s t : KeySpan) (ss ts : List KeySpan) → Normal (s ∷ ss) → Normal (t ∷ ts) → s.lo ≡ t.lo → ((key : List ℕ) → is_covered (s ∷ ss) key ≡ is_covered (t ∷ ts) key) → is_below s.hi t.hi ≡ false
 ends_last s t ss ts ns nt same alike =
-    not_true (is_below s.hi t.hi) (λ e.
+    false_from_ne_true (is_below s.hi t.hi) (λ e.
     let from : is_below s.hi t.lo ≡ false = subst (λ lo. is_below s.hi lo ≡ false) same (below_one_way s.lo s.hi ns.0.rises) in
     let held : holds_key t s.hi ≡ true = holds_end t s.hi ns.0.hi from e in
     let covered : is_covered (s ∷ ss) s.hi ≡ true = alike s.hi ∙ ap (λ b. b || is_covered ts s.hi) held in
-    let own : holds_key s s.hi ≡ false = not_true (holds_key s s.hi) (λ f.
+    let own : holds_key s s.hi ≡ false = false_from_ne_true (holds_key s s.hi) (λ f.
     let low : is_below s.hi s.hi ≡ true = subst (λ p. is_below p s.hi ≡ true) (end_is_prefix s.hi ns.0.hi) (held_to s s.hi f) in
     let none : is_below s.hi s.hi ≡ false = below_itself s.hi in
     cc) in

@@ -1,36 +1,17 @@
 -- The part of a span within bounds, by where it lies, and the parts of a list.
-use Rattle.std.proofs.Common.{◌≡◌, ℕ, ◌<◌, List, [], ◌∷◌, ◌++◌, length, Bool, true, false, cond, refl, sym, ap, ◌∙◌, arith}
-use Rattle.std.specs.Prelude.{All, ◌&&◌, ◌||◌}
+use Rattle.std.proofs.Common.{◌≡◌, ℕ, ◌<◌, List, [], ◌∷◌, ◌++◌, length, true, false, cond, refl, sym, ap, ◌∙◌, arith}
+use Rattle.std.specs.Prelude.{All, ◌&&◌}
 use Rattle.std.proofs.lemmas.List.Elements.{All-cons, All-head, All-tail, All-nil, All-weaker, All-append}
 use Rattle.pb_keys.specs.Order.{is_below, lesser, greater}
-use Rattle.pb_keys.specs.Span.{KeySpan, IsSpan, IsEnd, span_of, overlap}
-use Rattle.pb_keys.proofs.OrderFacts.{below_itself, below_one_way, below_chain, below_upto, upto_below, same_bytes}
+use Rattle.pb_keys.specs.Span.{KeySpan, IsSpan, span_of, overlap}
+use Rattle.pb_keys.proofs.OrderFacts.{below_itself, below_one_way, below_chain, below_upto, upto_below}
 use Rattle.pb_keys.proofs.SpanFacts.{overlap-ends}
 use Rattle.pb_rows.specs.Layer.{AreApart}
 use Rattle.pb_rows.specs.Viewed.{part_within, cut_to}
 use Rattle.pb_rows.proofs.Tests.{Both, both_true}
 use Rattle.pb_rows.proofs.NormalSpans.{Above, Normal, normal_from_apart, apart_from_normal}
-use Rattle.pb_rows.proofs.SpanLaws.{below-lesser, below-greater}
-
-greater_first : (a b : List ℕ) → is_below a b ≡ false → greater a b ≡ a
-greater_first a b h = ap (λ t. cond t b a) h
-
-greater_second : (a b : List ℕ) → is_below b a ≡ false → greater a b ≡ b
-greater_second a b h =
-    elim (is_below a b) as (λ t. is_below a b ≡ t → cond t b a ≡ b) [
-      | true ↦ λ e. refl
-      | false ↦ λ e. same_bytes a b e h
-    ] refl
-
-pub lesser_first : (a b : List ℕ) → is_below b a ≡ false → lesser a b ≡ a
-lesser_first a b h = ap (λ t. cond t b a) h
-
-lesser_second : (a b : List ℕ) → is_below a b ≡ false → lesser a b ≡ b
-lesser_second a b h =
-    elim (is_below b a) as (λ t. is_below b a ≡ t → cond t b a ≡ b) [
-      | true ↦ λ e. refl
-      | false ↦ λ e. same_bytes a b h e
-    ] refl
+use Rattle.pb_keys.proofs.EndFacts.{below-lesser, below-greater, greater_first, greater_second, lesser_first, lesser_second, lesser_is_end, greater_is_end}
+use Rattle.std.proofs.lemmas.Bool.{and_right, or_right}
 
 one_part : (bounds span : KeySpan) (lo hi : List ℕ) → is_below bounds.lo span.hi ≡ true → is_below span.lo bounds.hi ≡ true → greater bounds.lo span.lo ≡ lo → lesser bounds.hi span.hi ≡ hi → part_within bounds span ≡ span_of lo hi ∷ []
 one_part bounds span lo hi first second lo_is hi_is =
@@ -42,13 +23,9 @@ pub no_part_before : (bounds span : KeySpan) → is_below bounds.lo span.hi ≡ 
 no_part_before bounds span h =
     ap (λ b. cond b (span_of (greater bounds.lo span.lo) (lesser bounds.hi span.hi) ∷ []) []) (overlap-ends bounds span ∙ ap (λ b. b && is_below span.lo bounds.hi) h)
 
-none_of_both : (a : Bool) → (a && false) ≡ false
-none_of_both true = refl
-none_of_both false = refl
-
 pub no_part_behind : (bounds span : KeySpan) → is_below span.lo bounds.hi ≡ false → part_within bounds span ≡ []
 no_part_behind bounds span h =
-    ap (λ b. cond b (span_of (greater bounds.lo span.lo) (lesser bounds.hi span.hi) ∷ []) []) (overlap-ends bounds span ∙ ap (λ b. is_below bounds.lo span.hi && b) h ∙ none_of_both (is_below bounds.lo span.hi))
+    ap (λ b. cond b (span_of (greater bounds.lo span.lo) (lesser bounds.hi span.hi) ∷ []) []) (overlap-ends bounds span ∙ ap (λ b. is_below bounds.lo span.hi && b) h ∙ and_right (is_below bounds.lo span.hi) false refl)
 
 -- the span lies within the bounds
 pub whole_part : (bounds span : KeySpan) → IsSpan span → is_below span.lo bounds.lo ≡ false → is_below bounds.hi span.hi ≡ false → part_within bounds span ≡ span ∷ []
@@ -70,15 +47,11 @@ back_part bounds span is lo mid hi =
 
 -- ---- the parts of a list in form are in form
 
-either_so : (a b : Bool) → b ≡ true → (a || b) ≡ true
-either_so true b h = refl
-either_so false b h = h
-
 above_part : (bytes : List ℕ) (bounds span : KeySpan) → is_below bytes span.lo ≡ true → Above bytes (part_within bounds span)
 above_part bytes bounds span h =
     let P = λ (s : KeySpan). is_below bytes s.lo ≡ true in
     elim (overlap bounds span) as (λ b. Above bytes (cond b (span_of (greater bounds.lo span.lo) (lesser bounds.hi span.hi) ∷ []) [])) [
-      | true ↦ All-cons P (span_of (greater bounds.lo span.lo) (lesser bounds.hi span.hi)) [] (below-greater bytes bounds.lo span.lo ∙ either_so (is_below bytes bounds.lo) (is_below bytes span.lo) h) (All-nil P)
+      | true ↦ All-cons P (span_of (greater bounds.lo span.lo) (lesser bounds.hi span.hi)) [] (below-greater bytes bounds.lo span.lo ∙ or_right (is_below bytes bounds.lo) (is_below bytes span.lo) h) (All-nil P)
       | false ↦ All-nil P
     ]
 
@@ -87,12 +60,6 @@ above_parts bytes bounds [] above = All-nil (λ s. is_below bytes s.lo ≡ true)
 above_parts bytes bounds (s ∷ ss) above =
     let P = λ (span : KeySpan). is_below bytes span.lo ≡ true in
     All-append P (part_within bounds s) (cut_to bounds ss) (above_part bytes bounds s (All-head P s ss above)) (above_parts bytes bounds ss (All-tail P s ss above))
-
-lesser_is_end : (a b : List ℕ) → IsEnd a → IsEnd b → IsEnd (lesser a b)
-lesser_is_end a b is_a is_b = elim (is_below b a) as (λ t. IsEnd (cond t b a)) [ true ↦ is_b | false ↦ is_a ]
-
-greater_is_end : (a b : List ℕ) → IsEnd a → IsEnd b → IsEnd (greater a b)
-greater_is_end a b is_a is_b = elim (is_below a b) as (λ t. IsEnd (cond t b a)) [ true ↦ is_b | false ↦ is_a ]
 
 -- the greater of two starts is below the lesser of two ends
 rises_within : (bounds span : KeySpan) → IsSpan bounds → IsSpan span → Both (is_below bounds.lo span.hi) (is_below span.lo bounds.hi) → is_below (greater bounds.lo span.lo) (lesser bounds.hi span.hi) ≡ true

@@ -1,27 +1,15 @@
 -- What lists of spans hold.
 use Rattle.std.proofs.Common.{◌≡◌, ℕ, List, [], ◌∷◌, true, false, cond, refl, sym, ap, ◌∙◌}
 use Rattle.std.specs.Prelude.{not, ◌&&◌, ◌||◌}
-use Rattle.pb_keys.specs.Order.{is_below, lesser, greater}
+use Rattle.pb_keys.specs.Order.{is_below}
 use Rattle.pb_keys.specs.Key.{prefix_of}
 use Rattle.pb_keys.specs.Span.{KeySpan, holds_key, joined}
-use Rattle.pb_keys.proofs.OrderFacts.{below_chain, below_upto}
+use Rattle.pb_keys.proofs.OrderFacts.{below_upto}
 use Rattle.pb_rows.specs.Over.{with_span, union_of}
 use Rattle.pb_rows.specs.Verdict.{is_covered}
-use Rattle.pb_rows.proofs.Bits.{either_swaps, either_groups, both_below, both_below_first, one_below, one_below_first, one_span}
-
-pub below-lesser : (p a b : List ℕ) → is_below p (lesser a b) ≡ (is_below p a && is_below p b)
-below-lesser p a b =
-    elim (is_below b a) as (λ t. is_below b a ≡ t → is_below p (cond t b a) ≡ (is_below p a && is_below p b)) [
-      | true ↦ λ e. both_below (is_below p a) (is_below p b) (λ h. below_chain p b a h e)
-      | false ↦ λ e. both_below_first (is_below p a) (is_below p b) (λ h. below_upto p a b h e)
-    ] refl
-
-pub below-greater : (p a b : List ℕ) → is_below p (greater a b) ≡ (is_below p a || is_below p b)
-below-greater p a b =
-    elim (is_below a b) as (λ t. is_below a b ≡ t → is_below p (cond t b a) ≡ (is_below p a || is_below p b)) [
-      | true ↦ λ e. one_below (is_below p a) (is_below p b) (λ h. below_chain p a b h e)
-      | false ↦ λ e. one_below_first (is_below p a) (is_below p b) (λ h. below_upto p b a h e)
-    ] refl
+use Rattle.pb_rows.proofs.Bits.{one_span}
+use Rattle.pb_keys.proofs.Tests.{either_swaps, either_groups}
+use Rattle.pb_keys.proofs.EndFacts.{below-lesser, below-greater}
 
 -- spans that overlap or touch hold together what they hold as one
 pub holds-joined : (s t : KeySpan) (key : List ℕ) → is_below s.hi t.lo ≡ false → is_below t.hi s.lo ≡ false → holds_key (joined s t) key ≡ (holds_key s key || holds_key t key)

@@ -13,7 +13,7 @@ use Rattle.pb_rows.specs.Layer.{KeyRow, KeyLayer, layer_of}
 use Rattle.pb_rows.specs.Verdict.{Verdict, row_verdict, is_covered, verdict, verdicts}
 use Rattle.pb_rows.specs.Applied.{without_all, with_value, with_rows, applied, applied_newest_first}
 use Rattle.pb_rows.specs.Over.{over}
-use Rattle.pb_rows.proofs.Bits.{turned}
+use Rattle.pb_keys.proofs.Tests.{turned}
 use Rattle.pb_rows.proofs.SpanLaws.{is_covered-union_of}
 use Rattle.pb_rows.proofs.RowLaws.{row_verdict-rows_over, row_verdict-filter}
 

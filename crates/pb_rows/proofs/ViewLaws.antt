@@ -12,7 +12,8 @@ use Rattle.pb_rows.specs.Layer.{KeyRow, KeyLayer, layer_of}
 use Rattle.pb_rows.specs.Verdict.{Verdict, row_verdict, is_covered, verdict}
 use Rattle.pb_rows.specs.Viewed.{viewed, plain_view, mapped, bounded, mapped_row, mapped_span, part_within}
 use Rattle.pb_rows.proofs.RowLaws.{row_verdict-filter}
-use Rattle.pb_rows.proofs.SpanLaws.{below-lesser, below-greater}
+use Rattle.pb_keys.proofs.EndFacts.{below-lesser, below-greater}
+use Rattle.pb_keys.proofs.Tests.{or_false}
 
 within_both : (a b c d : Bool) → (not (a || b) && (c && d)) ≡ ((not a && c) && (not b && d))
 within_both true b c d = refl
@@ -55,10 +56,6 @@ both_of_each false s c = refl
 is_covered-append : (ss ts : List KeySpan) (key : List ℕ) → is_covered (ss ++ ts) key ≡ (is_covered ss key || is_covered ts key)
 is_covered-append [] ts key = refl
 is_covered-append (s ∷ ss) ts key = elim (holds_key s key) as (λ b. (b || is_covered (ss ++ ts) key) ≡ ((b || is_covered ss key) || is_covered ts key)) [ true ↦ refl | false ↦ is_covered-append ss ts key ]
-
-or_false : (a : Bool) → (a || false) ≡ a
-or_false true = refl
-or_false false = refl
 
 is_covered-part_within : (bounds span : KeySpan) (key : List ℕ) → is_covered (part_within bounds span) key ≡ (holds_key bounds key && holds_key span key)
 is_covered-part_within bounds span key =

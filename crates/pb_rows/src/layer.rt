@@ -5,11 +5,10 @@ ghost use Rattle.pb_rows.specs.Hull.{hull_of};
 ghost use Rattle.pb_rows.specs.Verdict.{verdict};
 
 use super::check::{are_apart, first_fall};
-use super::copies::{copy_of_rows, copy_of_spans};
 use super::hull::{either_of, hull_of_dels, hull_of_rows};
 use super::look::{found_among, found_in, row_of};
 use super::{Found, Row};
-use pb_keys::{Key, List, Span};
+use pb_keys::{Key, List, Span, copy_all};
 use std::alloc::{AllocError, Global};
 use std::marker::Model;
 
@@ -66,6 +65,14 @@ impl Layer {
         }
     }
 
+    /// The layer of two lists that are known to be in form, without a look at them.
+    pub fn from_parts(dels: Vec<Span>, rows: Vec<Row>) -> Layer
+        requires { IsLayer (layer_of dels.items rows.items) }
+        ensures { result ≡ layer_of dels.items rows.items }
+    {
+        Layer { dels, rows }
+    }
+
     /// The spans whose keys the layer deletes.
     pub fn dels(&self) -> &[Span]
         ensures value { result.now ≡ self.now.dels }
@@ -117,8 +124,8 @@ impl Layer {
     pub fn copy(&self, alloc: Global) -> Result<Layer, AllocError>
         ensures ok { IfOk result (λ layer. layer ≡ self.now) }
     {
-        let dels = copy_of_spans(alloc, self.dels.as_slice())?;
-        let rows = copy_of_rows(alloc, self.rows.as_slice())?;
+        let dels = copy_all(alloc, self.dels.as_slice())?;
+        let rows = copy_all(alloc, self.rows.as_slice())?;
         Ok(Layer { dels, rows })
     }
 }

@@ -2,7 +2,6 @@
 #![tactic(auto)]
 
 mod check;
-mod copies;
 mod hull;
 pub mod laws;
 mod layer;

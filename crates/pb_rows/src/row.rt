@@ -4,7 +4,7 @@ ghost use Rattle.pb_keys.specs.Key.{IsKey};
 ghost use Rattle.pb_rows.specs.ChangingLayers.{row_of};
 ghost use Rattle.pb_rows.specs.Layer.{IsShortRow};
 
-use pb_keys::{Bytes, Key, KeyError, MAX_VALUE};
+use pb_keys::{Bytes, Copies, Key, KeyError, MAX_VALUE};
 use std::alloc::{AllocError, Global};
 use std::marker::Model;
 
@@ -52,6 +52,12 @@ impl Row {
         let key = self.key.copy(alloc)?;
         let value = copy_of(alloc, &self.value)?;
         Ok(Row { key, value })
+    }
+}
+
+impl Copies for Row {
+    fn copied(&self, alloc: Global) -> Result<Row, AllocError> {
+        self.copy(alloc)
     }
 }
 

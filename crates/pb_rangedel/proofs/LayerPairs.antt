@@ -11,7 +11,7 @@ use Rattle.pb_rows.proofs.LayersOver.{one_normal_form, empty_is_layer, layer-ove
 use Rattle.pb_rows.proofs.RowLaws.{row_verdict-rows_over}
 use Rattle.pb_rows.proofs.SameRows.{same_rows_by_verdict}
 use Rattle.pb_rows.proofs.SpanLaws.{is_covered-union_of}
-use Rattle.pb_rows.proofs.Tests.{or_false}
+use Rattle.pb_keys.proofs.Tests.{or_false}
 use Rattle.pb_rows.proofs.VerdictLaws.{option_or_none}
 
 -- over the empty layer a layer stays what it is

@@ -5,7 +5,7 @@ use Rattle.std.specs.List.{slice_get}
 use Rattle.std.proofs.lemmas.Option.{slice_get-get_or, get_or_from_slice_get, slice_get_within, slice_get_past, slice_get_read}
 use Rattle.std.specs.Slice.{IsItemAt}
 use Rattle.std.specs.List.Sorted.{IsPartitionPoint}
-use Rattle.std.proofs.lemmas.Bool.{cases_lt}
+use Rattle.std.proofs.lemmas.Bool.{cases_lt, not-true}
 use Rattle.std.proofs.lemmas.List.{get_or_default}
 use Rattle.pb_keys.specs.Key.{prefix_of}
 use Rattle.pb_keys.specs.Order.{is_below, is_upto}
@@ -15,7 +15,7 @@ use Rattle.pb_keys.proofs.OrderFacts.{upto_chain}
 use Rattle.pb_rangedel.specs.Spans.{EndUpto}
 use Rattle.pb_rows.specs.Layer.{KeyRow, AreApart, Rise}
 use Rattle.pb_rows.proofs.LookLaws.{is_span_below, spans_are_parted}
-use Rattle.pb_rows.proofs.Tests.{not_so, not_true}
+use Rattle.std.proofs.lemmas.Bool.{false_from_ne_true}
 
 pub end_more : (bytes : List ℕ) (spans : List KeySpan) (n : ℕ) (s : KeySpan) → EndUpto bytes spans n → n < length spans → s ≡ get_or spans n s → is_upto s.hi bytes ≡ true → EndUpto bytes spans (n + 1)
 end_more bytes spans n s before within s_is here k d h =
@@ -31,7 +31,7 @@ end_more bytes spans n s before within s_is here k d h =
 pub passed_part : (bytes : List ℕ) (spans : List KeySpan) (at : ℕ) → All IsSpan spans → AreApart spans → EndUpto bytes spans at → (at < length spans → (d : KeySpan) → is_upto (get_or spans at d).hi bytes ≡ false) → IsPartitionPoint (λ s. is_span_below bytes s ≡ true) (λ s. is_span_below bytes s ≡ false) spans at
 passed_part bytes spans at are apart before stops = (
   λ k d within h. before k d h,
-  λ k d h within. not_true (is_upto (get_or spans k d).hi bytes) (λ e.
+  λ k d h within. false_from_ne_true (is_upto (get_or spans k d).hi bytes) (λ e.
       let first : is_upto (get_or spans at d).hi bytes ≡ true = spans_are_parted spans bytes are apart at k d h within e in
       let other : is_upto (get_or spans at d).hi bytes ≡ false = stops (omega arith) d in
       cc),
@@ -41,7 +41,7 @@ passed_part bytes spans at are apart before stops = (
 pub passed_more : (dels : List KeySpan) (rows : List KeyRow) (at n : ℕ) → Rise rows → ((d : KeyRow) → at < length rows → EndUpto (prefix_of (get_or rows at d).key) dels n) → (d : KeyRow) → at + 1 < length rows → EndUpto (prefix_of (get_or rows (at + 1) d).key) dels n
 passed_more dels rows at n rise before d within k e h =
     let up : is_below (prefix_of (get_or rows (at + 1) d).key) (prefix_of (get_or rows at d).key) ≡ false = prefixes_ascend (get_or rows at d).key (get_or rows (at + 1) d).key (rise at d within) in
-    ap not (upto_chain (get_or dels k e).hi (prefix_of (get_or rows at d).key) (prefix_of (get_or rows (at + 1) d).key) (not_so _ (before d (omega arith) k e h)) up)
+    ap not (upto_chain (get_or dels k e).hi (prefix_of (get_or rows at d).key) (prefix_of (get_or rows (at + 1) d).key) (not-true _ (before d (omega arith) k e h)) up)
 
 -- what is known of the row that comes next
 pub passed_from : (dels : List KeySpan) (rows : List KeyRow) (at n : ℕ) (row : Option (Bor KeyRow)) → option_copied row ≡ slice_get rows at → IfSome row (λ r. EndUpto (prefix_of r.now.key) dels n) → (d : KeyRow) → at < length rows → EndUpto (prefix_of (get_or rows at d).key) dels n

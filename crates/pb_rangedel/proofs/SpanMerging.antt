@@ -13,8 +13,8 @@ use Rattle.pb_rows.specs.Over.{union_of}
 use Rattle.pb_rows.specs.Verdict.{is_covered}
 use Rattle.pb_keys.proofs.SpanFacts.{joined_is_span}
 use Rattle.pb_rows.proofs.SpanLaws.{holds-joined, is_covered-union_of}
-use Rattle.pb_rows.proofs.Parts.{lesser_first}
-use Rattle.pb_rows.proofs.Tests.{or_false, either_groups, either_turns}
+use Rattle.pb_keys.proofs.EndFacts.{lesser_first}
+use Rattle.pb_keys.proofs.Tests.{or_false, either_groups, either_turns}
 use Rattle.pb_rows.proofs.NormalSpans.{Normal, normal_from_apart, apart_from_normal, normal-union_of, same_normal}
 
 -- ---- one more span at the end

@@ -3,7 +3,7 @@ ghost use Rattle.std.specs.Prelude.{◌≡◌, ◌+◌, ◌*◌, ◌≤◌, List
 ghost use Rattle.pb_rows.specs.Layer.{KeyLayer, IsLayer};
 ghost use Rattle.pb_rows.specs.Over.{over_all as over_all_of};
 
-use super::merged::{layer_from, over_owned};
+use super::merged::over_owned;
 use pb_rows::{Layer, Layers};
 use std::alloc::{AllocError, Global};
 
@@ -18,8 +18,7 @@ pub fn over_all(alloc: Global, newest_first: Layers) -> Result<Layer, AllocError
     while layers.len() > 1 {
         layers = paired(alloc, layers)?;
     }
-    let layer = only_of(alloc, layers)?;
-    Ok(layer)
+    Ok(only_of(alloc, layers))
 }
 
 /// Each two neighbours put over one another, and the last layer of an odd number.
@@ -53,19 +52,16 @@ fn over_next(alloc: Global, newer: Layer, older: Option<Layer>) -> Result<Layer,
 }
 
 /// The only layer, or the empty one.
-fn only_of(alloc: Global, mut layers: Vec<Layer>) -> Result<Layer, AllocError>
+fn only_of(alloc: Global, mut layers: Vec<Layer>) -> Layer
     requires { vec_len layers ≤ 1 }
-    ensures ok { IfOk result (λ layer. layer ≡ over_all_of layers.items) }
+    ensures { result ≡ over_all_of layers.items }
 {
     match layers.pop() {
         Some(layer) => {
             // So the proof knows that the layer is in form.
             let _dels = layer.dels();
-            Ok(layer)
+            layer
         }
-        None => {
-            let layer = layer_from(alloc, Vec::new(alloc), Vec::new(alloc))?;
-            Ok(layer)
-        }
+        None => Layer::from_parts(Vec::new(alloc), Vec::new(alloc)),
     }
 }

@@ -1,11 +1,10 @@
-ghost use Rattle.std.specs.Prelude.{◌≡◌, All, IfOk};
-ghost use Rattle.pb_rows.specs.Layer.{AreApart, IsLayer, IsShortRow, Rise, layer_of};
+ghost use Rattle.std.specs.Prelude.{◌≡◌, IfOk};
+ghost use Rattle.pb_rows.specs.Layer.{IsLayer};
 ghost use Rattle.pb_rows.specs.Over.{over as over_of};
 
 use super::rows::{merge, merge_owned};
 use super::unite::union;
-use pb_keys::Span;
-use pb_rows::{Layer, Row, RowsError};
+use pb_rows::Layer;
 use std::alloc::{AllocError, Global};
 
 /// The newer layer over the older one, in one pass over both.
@@ -17,8 +16,7 @@ pub fn over(alloc: Global, newer: &Layer, older: &Layer) -> Result<Layer, AllocE
 {
     let dels = union(alloc, newer.dels(), older.dels())?;
     let rows = merge(alloc, newer.dels(), newer.rows(), older.rows())?;
-    let layer = layer_from(alloc, dels, rows)?;
-    Ok(layer)
+    Ok(Layer::from_parts(dels, rows))
 }
 
 /// The newer layer over the older one, as `over` has it, whose rows are moved and not copied.
@@ -30,25 +28,5 @@ pub fn over_owned(alloc: Global, newer: Layer, older: Layer) -> Result<Layer, Al
     let (old_dels, old_rows) = older.into_parts();
     let dels = union(alloc, new_dels.as_slice(), old_dels.as_slice())?;
     let rows = merge_owned(alloc, new_dels.as_slice(), new_rows, old_rows)?;
-    let layer = layer_from(alloc, dels, rows)?;
-    Ok(layer)
-}
-
-/// The layer of two lists in form.
-pub(crate) fn layer_from(
-    alloc: Global,
-    dels: Vec<Span>,
-    rows: Vec<Row>,
-) -> Result<Layer, AllocError>
-    requires apart { AreApart dels.items }
-    requires rise { Rise rows.items }
-    requires short { All IsShortRow rows.items }
-    ensures ok { IfOk result (λ layer. layer ≡ layer_of dels.items rows.items) }
-{
-    match Layer::new(alloc, dels, rows) {
-        Ok(layer) => Ok(layer),
-        Err(RowsError::BadDels) => unreachable!(),
-        Err(RowsError::BadRow(_)) => unreachable!(),
-        Err(RowsError::NoMemory) => Err(AllocError),
-    }
+    Ok(Layer::from_parts(dels, rows))
 }

@@ -74,9 +74,9 @@ pub(crate) fn merge_owned(
     requires older { Rise older.items }
     ensures ok { IfOk result (λ rows. rows.items ≡ rows_over newer.items (uncovered dels.now older.items)) }
 {
+    let mut out = Vec::with_capacity(alloc, newer.len() + older.len())?;
     let mut newer = VecDeque::from(newer);
     let mut older = VecDeque::from(older);
-    let mut out = Vec::new(alloc);
     let mut passed = 0;
     while let Some(step) = step_of(dels, &mut passed, newer.front(), older.front()) {
         match step {

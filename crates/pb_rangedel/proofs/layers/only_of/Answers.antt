@@ -6,4 +6,4 @@ pub returns-in-Some : goal.returns-in-Some
 returns-in-Some c =
     let layer = c.in-Some.layer in
     let items : c.args.layers.items ≡ c.pop.new.self.items ++ layer ∷ [] = c.in-Some.ensures.items in
-    record { ok = alone c.args.layers.items c.pop.new.self.items layer items (omega arith) c.dels-dels.ensures.in_form }
+    alone c.args.layers.items c.pop.new.self.items layer items (omega arith) c.dels-dels.ensures.in_form

@@ -9,15 +9,15 @@ use Rattle.pb_rangedel.proofs.rows.merge_owned.Goals as goal
 pub step_of-requires-clause-passed : goal.step_of-requires-clause-passed
 step_of-requires-clause-passed c = passed_to c.args.dels.now c.loop-step.older.items 0 c.loop-step.passed c.front-in-loop-step.result (item_is c.loop-step.older.items 0 c.front-in-loop-step.result c.front-in-loop-step.ensures.item) c.loop-step.invariant.passed
 
-pub loop-step-smaller-in-Continue-1 : goal.loop-step-smaller-in-Continue-1
-loop-step-smaller-in-Continue-1 c =
+pub loop-step-smaller-in-Continue-branch-2 : goal.loop-step-smaller-in-Continue-branch-2
+loop-step-smaller-in-Continue-branch-2 c =
     let next = c.in-Some.ensures.step c.loop-step.newer.items c.loop-step.older.items 0 0 c.loop-step.invariant.newer c.loop-step.invariant.older
     (item_is c.loop-step.newer.items 0 c.front.result c.front.ensures.item) (item_is c.loop-step.older.items 0 c.front-in-loop-step.result c.front-in-loop-step.ensures.item) in
     let here : IsStep Newer c.args.dels.now c.loop-step.newer.items c.loop-step.older.items 0 0 = subst (λ step. IsStep step c.args.dels.now c.loop-step.newer.items c.loop-step.older.items 0 0) c.in-Newer.is next in
     omega (arith, fewer_rest c.loop-step.newer.items c.move_first.new.from.items here.0 c.in_ok-move_first-in-Newer.ensures.left)
 
-pub loop-step-preserved-in-Continue-1 : goal.loop-step-preserved-in-Continue-1
-loop-step-preserved-in-Continue-1 c =
+pub loop-step-preserved-in-Continue-branch-2 : goal.loop-step-preserved-in-Continue-branch-2
+loop-step-preserved-in-Continue-branch-2 c =
     let next = c.in-Some.ensures.step c.loop-step.newer.items c.loop-step.older.items 0 0 c.loop-step.invariant.newer c.loop-step.invariant.older
     (item_is c.loop-step.newer.items 0 c.front.result c.front.ensures.item) (item_is c.loop-step.older.items 0 c.front-in-loop-step.result c.front-in-loop-step.ensures.item) in
     let here : IsStep Newer c.args.dels.now c.loop-step.newer.items c.loop-step.older.items 0 0 = subst (λ step. IsStep step c.args.dels.now c.loop-step.newer.items c.loop-step.older.items 0 0) c.in-Newer.is next in
@@ -28,15 +28,15 @@ loop-step-preserved-in-Continue-1 c =
       passed = (passed_from c.args.dels.now c.loop-step.older.items 0 c.step_of.new.passed c.front-in-loop-step.result (item_is c.loop-step.older.items 0 c.front-in-loop-step.result c.front-in-loop-step.ensures.item) c.in-Some.ensures.passed);
     }
 
-pub loop-step-smaller-in-Continue-branch-2 : goal.loop-step-smaller-in-Continue-branch-2
-loop-step-smaller-in-Continue-branch-2 c =
+pub loop-step-smaller-in-Continue-branch-3 : goal.loop-step-smaller-in-Continue-branch-3
+loop-step-smaller-in-Continue-branch-3 c =
     let next = c.in-Some.ensures.step c.loop-step.newer.items c.loop-step.older.items 0 0 c.loop-step.invariant.newer c.loop-step.invariant.older
     (item_is c.loop-step.newer.items 0 c.front.result c.front.ensures.item) (item_is c.loop-step.older.items 0 c.front-in-loop-step.result c.front-in-loop-step.ensures.item) in
     let here : IsStep Older c.args.dels.now c.loop-step.newer.items c.loop-step.older.items 0 0 = subst (λ step. IsStep step c.args.dels.now c.loop-step.newer.items c.loop-step.older.items 0 0) c.in-Older.is next in
     omega (arith, fewer_rest c.loop-step.older.items c.move_first-in-Older.new.from.items here.0 c.in_ok-move_first-in-Older.ensures.left)
 
-pub loop-step-preserved-in-Continue-branch-2 : goal.loop-step-preserved-in-Continue-branch-2
-loop-step-preserved-in-Continue-branch-2 c =
+pub loop-step-preserved-in-Continue-branch-3 : goal.loop-step-preserved-in-Continue-branch-3
+loop-step-preserved-in-Continue-branch-3 c =
     let next = c.in-Some.ensures.step c.loop-step.newer.items c.loop-step.older.items 0 0 c.loop-step.invariant.newer c.loop-step.invariant.older
     (item_is c.loop-step.newer.items 0 c.front.result c.front.ensures.item) (item_is c.loop-step.older.items 0 c.front-in-loop-step.result c.front-in-loop-step.ensures.item) in
     let here : IsStep Older c.args.dels.now c.loop-step.newer.items c.loop-step.older.items 0 0 = subst (λ step. IsStep step c.args.dels.now c.loop-step.newer.items c.loop-step.older.items 0 0) c.in-Older.is next in

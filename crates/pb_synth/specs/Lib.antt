@@ -1,0 +1,4 @@
+pub mod KeyParts
+pub mod Clash
+pub mod Limits
+pub mod Parts

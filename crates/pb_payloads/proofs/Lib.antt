@@ -3,3 +3,7 @@ pub mod SpellingLaws
 pub mod LoggedLaws
 pub mod CataloguedLaws
 pub mod CurrentLaws
+pub mod Pointers
+pub mod Results
+pub mod CatalogueLemmas
+pub mod PlaceExamples

@@ -1,5 +1,5 @@
 -- What a catalogue keeps of the objects behind numbers, and how it is spelled.
-use Rattle.std.specs.Prelude.{ℕ, ◌<◌, ◌^◌, ◌==◌, Bool, IsTrue, List, ◌∷◌, ◌++◌}
+use Rattle.std.specs.Prelude.{ℕ, ◌<◌, ◌^◌, ◌==◌, ◌||◌, Bool, IsTrue, List, ◌∷◌, ◌++◌}
 use Rattle.pb_bytes.specs.Varint.{varint, field}
 use Rattle.pb_names.specs.Grammar.{IsName}
 use Rattle.pb_names.specs.Identity.{Identity, IsObject}
@@ -21,9 +21,9 @@ kind_of (Entered number (Shared object)) = 2
 kind_of (Entered number (External name)) = 3
 kind_of (Dropped number) = 4
 
--- the kinds that a catalogue has: the id alone; the others are refused
+-- the kinds that a catalogue has: ids, shared objects and what is dropped; the others are refused
 abbrev pub is_kind : ℕ → Bool
-is_kind kind = kind == 1
+is_kind kind = kind == 1 || kind == 2 || kind == 4
 
 abbrev pub content_of : Catalogued → List ℕ
 content_of (Id id) = varint id

@@ -8,6 +8,9 @@ pub record Pointer : Type 0 where
   pub manifest : ℕ
   pub catalogue : ℕ
 
+abbrev pub pointer_to : ℕ → ℕ → Pointer
+pointer_to manifest catalogue = record { manifest = manifest; catalogue = catalogue }
+
 abbrev pub pointer_spelling : Pointer → List ℕ
 pointer_spelling pointer = varint pointer.manifest ++ varint pointer.catalogue
 

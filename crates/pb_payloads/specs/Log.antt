@@ -1,6 +1,8 @@
 -- What the payloads of a command log say.
 use Rattle.std.specs.Prelude.{◌≡◌, ℕ, ◌<◌, List, [], ◌∷◌, All, map}
-use Rattle.pb_payloads.specs.Logged.{Logged, IsLogged, logged_spelling}
+use Rattle.std.specs.List.{flat_map}
+use Rattle.pb_payloads.specs.Logged.{Logged, Waiting, IsLogged, logged_spelling}
+use Rattle.pb_payloads.specs.Logged.Logged.{Set, Del, DelRange, Ingest}
 
 -- a command, and the count of commands up to it
 pub record LogEntry : Type 0 where
@@ -28,3 +30,15 @@ pub record SaysLog (flushed : ℕ) (payloads : List (List ℕ)) (entries : List 
   pub spelled : payloads ≡ map entry_spelling entries
   pub in_form : All IsEntry entries
   pub rise : RiseAbove flushed entries
+
+-- ---- what waits in a log
+
+-- the local tables of a command
+abbrev pub waiting_of : Logged → List Waiting
+waiting_of (Set key value) = []
+waiting_of (Del key) = []
+waiting_of (DelRange span) = []
+waiting_of (Ingest span tables) = tables
+
+abbrev pub waiting_in : List LogEntry → List Waiting
+waiting_in log = flat_map (λ entry. waiting_of entry.command) log

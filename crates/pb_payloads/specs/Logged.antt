@@ -4,6 +4,7 @@ use Rattle.std.specs.List.{AllAdjacentBelow}
 use Rattle.pb_bytes.specs.Varint.{varint, field}
 use Rattle.pb_keys.specs.Key.{IsKey}
 use Rattle.pb_keys.specs.Span.{KeySpan, IsSpan}
+use Rattle.pb_keys.specs.Value.{IsValue}
 
 -- a local table whose ingest waits in the log
 pub record Waiting : Type 0 where
@@ -65,7 +66,7 @@ pub record AreWaiting (tables : List Waiting) : Type 0 where
 
 -- keys are keys, values have at most 65,536 bytes, and two ends are a span's
 abbrev pub IsContent : Logged → Type 0
-IsContent (Set key value) = IsKey key × (length value ≤ 65536)
+IsContent (Set key value) = IsKey key × IsValue value
 IsContent (Del key) = IsKey key
 IsContent (DelRange span) = IsSpan span
 IsContent (Ingest span tables) = IfSome span IsSpan × AreWaiting tables

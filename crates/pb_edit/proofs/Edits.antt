@@ -66,11 +66,11 @@ numbers_again e rest are above5 above4 above3 above2 above1 =
 -- ---- the lists
 
 pub record AreLists (e : VersionEdit) : Type 0 where
-  pub deleted : AreItems 6 IsDeleted deleted_below e.deleted
-  pub physical : AreItems 7 IsPhysical physical_below e.physical
-  pub virtuals : AreItems 8 IsVirtual virtual_below e.virtuals
-  pub created : AreItems 9 IsCreated created_below e.created
-  pub removed : AreItems 10 IsNumber nat_lt e.removed
+  pub deleted : AreItems IsDeleted deleted_below e.deleted
+  pub physical : AreItems IsPhysical physical_below e.physical
+  pub virtuals : AreItems IsVirtual virtual_below e.virtuals
+  pub created : AreItems IsCreated created_below e.created
+  pub removed : AreItems IsNumber nat_lt e.removed
 
 pub record ReadLists (numbers : VersionEdit) (bytes : List ℕ) (x : VersionEdit × List ℕ) : Type 0 where
   pub spelled : Splits bytes (lists_spelling x.0) x.1

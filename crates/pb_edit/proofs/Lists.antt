@@ -1,12 +1,11 @@
 -- The items of a kind that are read are those that are spelled, and what is spelled is read again.
-use Rattle.std.proofs.Common.{◌≡◌, inl, inr, ℕ, zero, suc, ◌<◌, ◌≤◌, true, cond, eqb, leb, List, [], ◌∷◌, ◌++◌, length, Option, Some, None, refl, sym, ap, subst, ◌∙◌, append_assoc, length-append, arith}
+use Rattle.std.proofs.Common.{◌≡◌, inl, inr, ℕ, zero, suc, ◌<◌, ◌≤◌, true, cond, eqb, List, [], ◌∷◌, ◌++◌, length, Option, Some, None, refl, sym, ap, subst, ◌∙◌, append_assoc, length-append, arith}
 use Rattle.std.specs.Prelude.{IfSome}
 use Rattle.std.specs.List.{AllByRecursion}
 use Rattle.std.specs.Option.{option_to_list}
-use Rattle.std.proofs.lemmas.Bool.{cases_Bool, eqb-true, eq-eqb, ne_eqb, leb-true, le-leb, and_parts, and_from, and_left}
+use Rattle.std.proofs.lemmas.Bool.{cases_Bool, eqb-true, eq-eqb, ne_eqb}
 use Rattle.std.proofs.lemmas.Option.{cond_some}
 use Rattle.pb_bytes.specs.Varint.{varint}
-use Rattle.pb_edit.specs.declared.grammar.TheConstants.{LAST_KIND}
 use Rattle.pb_edit.specs.Grammar.{number_item, items, Ascend, AreItems}
 use Rattle.pb_bytes.specs.Number.{IsNumber}
 use Rattle.pb_edit.specs.Reading.{◌>>=◌, ItemKind, begins, content_from, may_follow, content_behind, items_at, all_at, number_at, optional_at}
@@ -62,13 +61,12 @@ optional_again kind (Some number) rest is above = rw (eq-eqb kind kind refl, num
 
 -- in form behind the last one
 pub record FollowItems {X : Type 0} (kind : ItemKind X) (IsItem : X → Type 0) (last : Option X) (xs : List X) : Type 0 where
-  pub counts : ¬ (xs ≡ []) → kind.byte ≤ LAST_KIND
   pub each : AllByRecursion IsItem xs
   pub ascend : Ascend kind.is_below (option_to_list last ++ xs)
 
 none_follow : {X : Type 0} (kind : ItemKind X) (IsItem : X → Type 0) (last : Option X) → FollowItems kind IsItem last []
-none_follow kind IsItem None = record { counts = λ some. absurd (some refl); each = tt; ascend = tt }
-none_follow kind IsItem (Some last) = record { counts = λ some. absurd (some refl); each = tt; ascend = tt }
+none_follow kind IsItem None = record { each = tt; ascend = tt }
+none_follow kind IsItem (Some last) = record { each = tt; ascend = tt }
 
 ascend_more : {X : Type 0} (kind : ItemKind X) (last : Option X) (x : X) (xs : List X) → may_follow kind last x ≡ true → Ascend kind.is_below (x ∷ xs) → Ascend kind.is_below (option_to_list last ++ (x ∷ xs))
 ascend_more kind None x xs follows ascend = ascend
@@ -103,13 +101,12 @@ items_takes {X = X} kind content IsItem reads (suc most) last (byte ∷ rest) re
           let is_item = reads.takes rest first.0 (item.1 ∙ ap Some follows.1) in
           let are_others = items_takes kind content IsItem reads most (Some first.0.0) first.0.1 others.0 others.1 in
           let first_follows : may_follow kind last first.0.0 ≡ true = ap (λ (y : X × List ℕ). may_follow kind last y.0) (sym follows.1) ∙ follows.0 in
-          let is_kind = and_parts (eqb byte kind.byte) (leb kind.byte LAST_KIND) here in
           let made : List X × List ℕ = (first.0.0 ∷ others.0.0, others.0.1) in
           let spelled : Splits (byte ∷ rest) (items kind.byte content made.0) made.1 =
-          headed byte kind.byte rest ((content first.0.0 ++ items kind.byte content others.0.0) ++ others.0.1) (eqb-true byte kind.byte is_kind.0)
+          headed byte kind.byte rest ((content first.0.0 ++ items kind.byte content others.0.0) ++ others.0.1) (eqb-true byte kind.byte here)
           (both_split rest first.0.1 others.0.1 (content first.0.0) (items kind.byte content others.0.0) is_item.0 are_others.0) in
           subst (λ (y : List X × List ℕ). Splits (byte ∷ rest) (items kind.byte content y.0) y.1 × FollowItems kind IsItem last y.0) (same_found made read others.2)
-          (spelled, record { counts = λ some. leb-true kind.byte LAST_KIND is_kind.1; each = (is_item.1, are_others.1.each); ascend = ascend_more kind last first.0.0 others.0.0 first_follows are_others.1.ascend })
+          (spelled, record { each = (is_item.1, are_others.1.each); ascend = ascend_more kind last first.0.0 others.0.0 first_follows are_others.1.ascend })
       | inr other ↦
           let none : ◌≡◌ {A = Option (List X × List ℕ)} (Some ([], byte ∷ rest)) (Some read) = rw other at e in
           subst (λ (y : List X × List ℕ). Splits (byte ∷ rest) (items kind.byte content y.0) y.1 × FollowItems kind IsItem last y.0) (same_found ([], byte ∷ rest) read none) (refl, none_follow kind IsItem last)
@@ -120,10 +117,7 @@ none_begins : {X : Type 0} (kind : ItemKind X) (rest : List ℕ) → StartsAbove
 none_begins kind [] above = refl
 none_begins kind (byte ∷ rest) above =
     let other : byte ≡ kind.byte → ⊥ = (λ same. absurd (omega arith)) in
-    rw (and_left (eqb byte kind.byte) (leb kind.byte LAST_KIND) (ne_eqb byte kind.byte other)) refl
-
-not_empty : {X : Type 0} (x : X) (xs : List X) → ¬ (x ∷ xs ≡ [])
-not_empty x xs e = absurd cc
+    rw (ne_eqb byte kind.byte other) refl
 
 pub items_again : {X : Type 0} (kind : ItemKind X) (content : X → List ℕ) (IsItem : X → Type 0) → ReadsContents kind content IsItem → (most : ℕ) (last : Option X) (xs : List X) (rest : List ℕ)
     → length xs ≤ most → FollowItems kind IsItem last xs → StartsAbove kind.byte rest → items_at kind most last (items kind.byte content xs ++ rest) ≡ Some (xs, rest)
@@ -132,11 +126,10 @@ items_again kind content IsItem reads zero last (x ∷ xs) rest enough follow ab
 items_again {X = X} kind content IsItem reads (suc most) last (x ∷ xs) rest enough follow above =
     let tail = items kind.byte content xs ++ rest in
     let first = ascend_first kind last x xs follow.ascend in
-    let counted : leb kind.byte LAST_KIND ≡ true = le-leb kind.byte LAST_KIND (follow.counts (not_empty x xs)) in
-    let here : begins kind kind.byte ≡ true = and_from (eqb kind.byte kind.byte) (leb kind.byte LAST_KIND) (eq-eqb kind.byte kind.byte refl) counted in
+    let here : begins kind kind.byte ≡ true = eq-eqb kind.byte kind.byte refl in
     let begun : content_from kind (kind.byte ∷ (content x ++ tail)) ≡ Some (content x ++ tail) = rw here refl in
     let item : content_behind kind last (content x ++ tail) ≡ Some (x, tail) = rw (reads.again x tail follow.each.0, first.0) refl in
-    let others = items_again kind content IsItem reads most (Some x) xs rest (omega arith) (record { counts = λ some. follow.counts (not_empty x xs); each = follow.each.1; ascend = first.1 }) above in
+    let others = items_again kind content IsItem reads most (Some x) xs rest (omega arith) (record { each = follow.each.1; ascend = first.1 }) above in
     let spelled : items kind.byte content (x ∷ xs) ++ rest ≡ kind.byte ∷ (content x ++ tail) = ap (λ (t : List ℕ). kind.byte ∷ t) (append_assoc (content x) (items kind.byte content xs) rest) in
     ap (items_at kind (suc most) last) spelled ∙ first_item kind most last (kind.byte ∷ (content x ++ tail)) (content x ++ tail) begun ∙ rw (item, others) refl
 
@@ -148,13 +141,13 @@ length-items kind content (x ∷ xs) = omega (arith, length-items kind content x
 -- ---- all of a kind
 
 pub all_takes : {X : Type 0} (kind : ItemKind X) (content : X → List ℕ) (IsItem : X → Type 0) → ReadsContents kind content IsItem → (bytes : List ℕ) (read : List X × List ℕ)
-    → all_at kind bytes ≡ Some read → Splits bytes (items kind.byte content read.0) read.1 × AreItems kind.byte IsItem kind.is_below read.0
+    → all_at kind bytes ≡ Some read → Splits bytes (items kind.byte content read.0) read.1 × AreItems IsItem kind.is_below read.0
 all_takes kind content IsItem reads bytes read e =
     let takes = items_takes kind content IsItem reads (length bytes) None bytes read e in
-    (takes.0, record { counts = takes.1.counts; each = takes.1.each; ascend = takes.1.ascend })
+    (takes.0, record { each = takes.1.each; ascend = takes.1.ascend })
 
 pub all_again : {X : Type 0} (kind : ItemKind X) (content : X → List ℕ) (IsItem : X → Type 0) → ReadsContents kind content IsItem → (xs : List X) (rest : List ℕ)
-    → AreItems kind.byte IsItem kind.is_below xs → StartsAbove kind.byte rest → all_at kind (items kind.byte content xs ++ rest) ≡ Some (xs, rest)
+    → AreItems IsItem kind.is_below xs → StartsAbove kind.byte rest → all_at kind (items kind.byte content xs ++ rest) ≡ Some (xs, rest)
 all_again kind content IsItem reads xs rest are above =
     items_again kind content IsItem reads (length (items kind.byte content xs ++ rest)) None xs rest (omega (arith, length-items kind.byte content xs, length-append (items kind.byte content xs) rest))
-    (record { counts = are.counts; each = are.each; ascend = are.ascend }) above
+    (record { each = are.each; ascend = are.ascend }) above

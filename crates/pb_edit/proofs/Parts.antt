@@ -6,7 +6,6 @@ use Rattle.std.proofs.lemmas.Option.{cond_some, option_and_then_some}
 use Rattle.pb_bytes.specs.Reading.{varint_at, if_within, field_at}
 use Rattle.pb_bytes.specs.Varint.{varint, field}
 use Rattle.pb_bytes.proofs.ReadingLemmas.{Begins-rest, varint_at-varint, varint_at-some, field_at-field, field_at-some}
-use Rattle.pb_edit.specs.declared.grammar.TheConstants.{LAST_LEVEL}
 use Rattle.pb_edit.specs.Grammar.{IsLevel, IsField}
 use Rattle.pb_bytes.specs.Number.{IsNumber}
 use Rattle.pb_edit.specs.Reading.{◌>>=◌, number_at, bytes_at, level_at}
@@ -75,9 +74,9 @@ pub level_takes : (bytes : List ℕ) (x : ℕ × List ℕ) → level_at bytes �
 unfolding level_at
 level_takes [] x e = absurd cc
 level_takes (level ∷ rest) x e =
-    let parts = cond_some (leb level LAST_LEVEL) (level, rest) x e in
-    subst (λ (y : ℕ × List ℕ). (level ∷ rest ≡ y.0 ∷ y.1) × IsLevel y.0) parts.1 (refl, leb-true level LAST_LEVEL parts.0)
+    let parts = cond_some (leb level 6) (level, rest) x e in
+    subst (λ (y : ℕ × List ℕ). (level ∷ rest ≡ y.0 ∷ y.1) × IsLevel y.0) parts.1 (refl, leb-true level 6 parts.0)
 
 pub level_again : (level : ℕ) (rest : List ℕ) → IsLevel level → level_at (level ∷ rest) ≡ Some (level, rest)
 unfolding level_at
-level_again level rest within = rw (le-leb level LAST_LEVEL within) refl
+level_again level rest within = rw (le-leb level 6 within) refl

@@ -3,7 +3,6 @@ use Rattle.std.specs.Prelude.{◌≡◌, ℕ, ◌<◌, ◌≤◌, ◌^◌, List,
 use Rattle.std.specs.List.{flat_map, AllByRecursion}
 use Rattle.pb_bytes.specs.Number.{IsNumber}
 use Rattle.pb_bytes.specs.Varint.{varint, field}
-use Rattle.pb_edit.specs.declared.grammar.TheConstants.{LAST_KIND, LAST_LEVEL}
 use Rattle.pb_edit.specs.Edit.{DeletedItem, PhysicalItem, VirtualItem, CreatedItem, VersionEdit}
 
 -- ---- spelling
@@ -49,7 +48,7 @@ edit_spelling e = numbers_spelling e ++ lists_spelling e
 -- ---- which edits there are
 
 abbrev pub IsLevel : ℕ → Type 0
-IsLevel level = level ≤ LAST_LEVEL
+IsLevel level = level ≤ 6
 
 -- what a field can hold
 abbrev pub IsField : List ℕ → Type 0
@@ -104,9 +103,8 @@ Ascend is_below [] = Unit {0}
 Ascend is_below (x ∷ []) = Unit {0}
 Ascend is_below (x ∷ y ∷ ys) = IsTrue (is_below x y) × Ascend is_below (y ∷ ys)
 
--- items of a kind, which counts where there are any
-pub record AreItems {X : Type 0} (kind : ℕ) (IsItem : X → Type 0) (is_below : X → X → Bool) (xs : List X) : Type 0 where
-  pub counts : ¬ (xs ≡ []) → kind ≤ LAST_KIND
+-- items of a kind
+pub record AreItems {X : Type 0} (IsItem : X → Type 0) (is_below : X → X → Bool) (xs : List X) : Type 0 where
   pub each : AllByRecursion IsItem xs
   pub ascend : Ascend is_below xs
 
@@ -117,8 +115,8 @@ pub record IsEdit (e : VersionEdit) : Type 0 where
   pub log : IfSome e.log IsNumber
   pub flushed : IfSome e.flushed IsNumber
   pub format : IfSome e.format IsNumber
-  pub deleted : AreItems 6 IsDeleted deleted_below e.deleted
-  pub physical : AreItems 7 IsPhysical physical_below e.physical
-  pub virtuals : AreItems 8 IsVirtual virtual_below e.virtuals
-  pub created : AreItems 9 IsCreated created_below e.created
-  pub removed : AreItems 10 IsNumber nat_lt e.removed
+  pub deleted : AreItems IsDeleted deleted_below e.deleted
+  pub physical : AreItems IsPhysical physical_below e.physical
+  pub virtuals : AreItems IsVirtual virtual_below e.virtuals
+  pub created : AreItems IsCreated created_below e.created
+  pub removed : AreItems IsNumber nat_lt e.removed

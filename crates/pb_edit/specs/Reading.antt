@@ -1,8 +1,7 @@
 -- Reading an edit from left to right: what begins bytes, and the bytes behind it.
-use Rattle.std.specs.Prelude.{◌≡◌, ℕ, zero, suc, ◌^◌, ◌-◌, List, [], ◌∷◌, length, drop, Bool, true, ◌&&◌, ◌==◌, nat_lt, nat_le, if◌then◌else◌, Option, Some, None, Result, Ok, Err}
+use Rattle.std.specs.Prelude.{◌≡◌, ℕ, zero, suc, ◌^◌, ◌-◌, List, [], ◌∷◌, length, drop, Bool, true, ◌==◌, nat_lt, nat_le, if◌then◌else◌, Option, Some, None, Result, Ok, Err}
 use Rattle.std.specs.List.{slice_get}
 use Rattle.pb_bytes.specs.Reading.{varint_at, field_at}
-use Rattle.pb_edit.specs.declared.grammar.TheConstants.{LAST_KIND, LAST_LEVEL}
 use Rattle.pb_edit.specs.declared.read.ReadError.{ReadError}
 use Rattle.pb_edit.specs.declared.read.ReadError.TheVariants.{Off, NoMemory}
 use Rattle.pb_edit.specs.Edit.{DeletedItem, PhysicalItem, VirtualItem, CreatedItem, VersionEdit}
@@ -34,7 +33,7 @@ bytes_at bytes = do
 
 unfoldable pub level_at : List ℕ → Option (ℕ × List ℕ)
 level_at [] = None
-level_at (level ∷ rest) = if nat_le level LAST_LEVEL then Some (level, rest) else None
+level_at (level ∷ rest) = if nat_le level 6 then Some (level, rest) else None
 
 -- ---- the contents of the kinds
 
@@ -85,9 +84,9 @@ pub record ItemKind (X : Type 0) : Type 0 where
   pub content_at : List ℕ → Option (X × List ℕ)
   pub is_below : X → X → Bool
 
--- an item of the kind begins here, and the kind counts
+-- an item of the kind begins here
 abbrev pub begins : {X : Type 0} → ItemKind X → ℕ → Bool
-begins kind byte = byte == kind.byte && nat_le kind.byte LAST_KIND
+begins kind byte = byte == kind.byte
 
 -- what stands behind the byte of the item that begins the bytes
 abbrev pub content_from : {X : Type 0} → ItemKind X → List ℕ → Option (List ℕ)

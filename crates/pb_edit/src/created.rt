@@ -1,6 +1,7 @@
 ghost use Rattle.pb_edit.specs.Grammar.{created_content};
 ghost use Rattle.pb_edit.specs.Reading.{created_kind};
 
+use super::fields::{field_of, put_field_of, put_fields, read_fields};
 use super::item::Item;
 use super::read::{ReadError, number_of};
 use pb_bytes::put_varint;
@@ -34,9 +35,7 @@ impl Item for Created {
 
     #[tactic(auto, unfolding(crate::specs::Reading::created_at))]
     fn read(_alloc: Global, from: &[u8]) -> Result<(Self, &[u8]), ReadError> {
-        let (number, rest) = number_of(from)?;
-        let (size, rest) = number_of(rest)?;
-        Ok((Created { number, size }, rest))
+        read_fields!(Created { number, size }, _alloc, from)
     }
 
     fn is_below(&self, other: &Self) -> bool {
@@ -44,8 +43,6 @@ impl Item for Created {
     }
 
     fn put(&self, alloc: Global, out: &mut Vec<u8>) -> Result<(), AllocError> {
-        put_varint(alloc, out, self.number)?;
-        put_varint(alloc, out, self.size)?;
-        Ok(())
+        put_fields!(self { number, size }, alloc, out)
     }
 }

@@ -1,6 +1,7 @@
 ghost use Rattle.pb_edit.specs.Grammar.{deleted_content};
 ghost use Rattle.pb_edit.specs.Reading.{deleted_kind};
 
+use super::fields::{field_of, put_field_of, put_fields, read_fields};
 use super::item::Item;
 use super::read::{ReadError, level_of, number_of};
 use pb_bytes::put_varint;
@@ -33,9 +34,7 @@ impl Item for Deleted {
 
     #[tactic(auto, unfolding(crate::specs::Reading::deleted_at))]
     fn read(_alloc: Global, from: &[u8]) -> Result<(Self, &[u8]), ReadError> {
-        let (level, rest) = level_of(from)?;
-        let (number, rest) = number_of(rest)?;
-        Ok((Deleted { level, number }, rest))
+        read_fields!(Deleted { level, number }, _alloc, from)
     }
 
     fn is_below(&self, other: &Self) -> bool {
@@ -43,8 +42,6 @@ impl Item for Deleted {
     }
 
     fn put(&self, alloc: Global, out: &mut Vec<u8>) -> Result<(), AllocError> {
-        out.push(self.level)?;
-        put_varint(alloc, out, self.number)?;
-        Ok(())
+        put_fields!(self { level, number }, alloc, out)
     }
 }

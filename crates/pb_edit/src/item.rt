@@ -3,7 +3,6 @@ ghost use Rattle.std.specs.Option.{option_map};
 ghost use Rattle.pb_edit.specs.Grammar.{items};
 ghost use Rattle.pb_edit.specs.Reading.{Gives, all_at, content_from, content_behind, last_of};
 
-use super::LAST_KIND;
 use super::read::ReadError;
 use std::alloc::{AllocError, Global};
 
@@ -59,7 +58,7 @@ fn content_of<T: Item>(from: &[u8]) -> Option<&[u8]>
     ensures shorter { IfSome result (λ content. length content.now < length from.now) }
 {
     match from {
-        [byte, rest @ ..] if *byte == T::kind() && T::kind() <= LAST_KIND => Some(rest),
+        [byte, rest @ ..] if *byte == T::kind() => Some(rest),
         _ => None,
     }
 }

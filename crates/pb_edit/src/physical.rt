@@ -1,6 +1,7 @@
 ghost use Rattle.pb_edit.specs.Grammar.{physical_content};
 ghost use Rattle.pb_edit.specs.Reading.{physical_kind};
 
+use super::fields::{field_of, put_field_of, put_fields, read_fields};
 use super::item::Item;
 use super::read::{ReadError, bytes_of, level_of, number_of};
 use pb_bytes::{put_field, put_varint};
@@ -39,21 +40,18 @@ impl Item for Physical {
 
     #[tactic(auto, unfolding(crate::specs::Reading::physical_at))]
     fn read(alloc: Global, from: &[u8]) -> Result<(Self, &[u8]), ReadError> {
-        let (level, rest) = level_of(from)?;
-        let (number, rest) = number_of(rest)?;
-        let (rank, rest) = number_of(rest)?;
-        let (size, rest) = number_of(rest)?;
-        let (lo, rest) = bytes_of(alloc, rest)?;
-        let (hi, rest) = bytes_of(alloc, rest)?;
-        let physical = Physical {
-            level,
-            number,
-            rank,
-            size,
-            lo,
-            hi,
-        };
-        Ok((physical, rest))
+        read_fields!(
+            Physical {
+                level,
+                number,
+                rank,
+                size,
+                lo,
+                hi
+            },
+            alloc,
+            from
+        )
     }
 
     fn is_below(&self, other: &Self) -> bool {
@@ -61,12 +59,17 @@ impl Item for Physical {
     }
 
     fn put(&self, alloc: Global, out: &mut Vec<u8>) -> Result<(), AllocError> {
-        out.push(self.level)?;
-        put_varint(alloc, out, self.number)?;
-        put_varint(alloc, out, self.rank)?;
-        put_varint(alloc, out, self.size)?;
-        put_field(alloc, out, self.lo.as_slice())?;
-        put_field(alloc, out, self.hi.as_slice())?;
-        Ok(())
+        put_fields!(
+            self {
+                level,
+                number,
+                rank,
+                size,
+                lo,
+                hi
+            },
+            alloc,
+            out
+        )
     }
 }

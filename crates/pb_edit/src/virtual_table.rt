@@ -1,6 +1,7 @@
 ghost use Rattle.pb_edit.specs.Grammar.{virtual_content};
 ghost use Rattle.pb_edit.specs.Reading.{virtual_kind};
 
+use super::fields::{field_of, put_field_of, put_fields, read_fields};
 use super::item::Item;
 use super::read::{ReadError, bytes_of, level_of, number_of};
 use pb_bytes::{put_field, put_varint};
@@ -42,25 +43,20 @@ impl Item for Virtual {
 
     #[tactic(auto, unfolding(crate::specs::Reading::virtual_at))]
     fn read(alloc: Global, from: &[u8]) -> Result<(Self, &[u8]), ReadError> {
-        let (level, rest) = level_of(from)?;
-        let (number, rest) = number_of(rest)?;
-        let (rank, rest) = number_of(rest)?;
-        let (backing, rest) = number_of(rest)?;
-        let (lo, rest) = bytes_of(alloc, rest)?;
-        let (hi, rest) = bytes_of(alloc, rest)?;
-        let (prefix, rest) = bytes_of(alloc, rest)?;
-        let (suffix, rest) = bytes_of(alloc, rest)?;
-        let table = Virtual {
-            level,
-            number,
-            rank,
-            backing,
-            lo,
-            hi,
-            prefix,
-            suffix,
-        };
-        Ok((table, rest))
+        read_fields!(
+            Virtual {
+                level,
+                number,
+                rank,
+                backing,
+                lo,
+                hi,
+                prefix,
+                suffix
+            },
+            alloc,
+            from
+        )
     }
 
     fn is_below(&self, other: &Self) -> bool {
@@ -68,14 +64,19 @@ impl Item for Virtual {
     }
 
     fn put(&self, alloc: Global, out: &mut Vec<u8>) -> Result<(), AllocError> {
-        out.push(self.level)?;
-        put_varint(alloc, out, self.number)?;
-        put_varint(alloc, out, self.rank)?;
-        put_varint(alloc, out, self.backing)?;
-        put_field(alloc, out, self.lo.as_slice())?;
-        put_field(alloc, out, self.hi.as_slice())?;
-        put_field(alloc, out, self.prefix.as_slice())?;
-        put_field(alloc, out, self.suffix.as_slice())?;
-        Ok(())
+        put_fields!(
+            self {
+                level,
+                number,
+                rank,
+                backing,
+                lo,
+                hi,
+                prefix,
+                suffix
+            },
+            alloc,
+            out
+        )
     }
 }

@@ -1,0 +1,5 @@
+pub mod Blocks
+pub mod Reading
+pub mod Held
+pub mod Cursors
+pub mod Runs

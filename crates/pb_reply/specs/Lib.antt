@@ -1,5 +1,5 @@
 pub mod Pair
-pub mod Listing
+pub mod LevelRow
 pub mod Refusals
 pub mod Pieces
 pub mod Printed

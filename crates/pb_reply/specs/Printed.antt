@@ -3,9 +3,9 @@ use Rattle.std.specs.Prelude.{ℕ, Bool, if◌then◌else◌, List, ◌++◌, le
 use Rattle.std.specs.Fmt.{decimal}
 use Rattle.std.specs.List.{flat_map}
 use Rattle.pb_keys.specs.Printed.{word}
-use Rattle.pb_reply.specs.Listing.{Listing}
+use Rattle.pb_reply.specs.LevelRow.{LevelRow}
 use Rattle.pb_reply.specs.Pair.{Pair}
-use Rattle.pb_reply.specs.Refusals.{carried, name_of, number_of}
+use Rattle.pb_reply.specs.Refusals.{carried, name_of, refusal_number}
 use Rattle.pb_reply.specs.declared.refusal.Refusal.{Refusal}
 use Rattle.pb_reply.specs.declared.reply.Reply.{Reply}
 use Rattle.pb_reply.specs.declared.reply.Reply.TheVariants.{Opened, Closed, Stopped, Accepted, Value, Absent, Rows, Done, Table, Exported, Lent, Dropped, Pinned, Unpinned, Started, Working, Released, Levels, Objects, Calls, Refused}
@@ -19,7 +19,7 @@ pair_line pair = line (word pair.key ++ codes " " ++ word pair.value)
 abbrev pub kind_word : Bool → List ℕ
 kind_word is_virtual = if is_virtual then codes "virtual" else codes "physical"
 
-abbrev pub table_line : Listing → List ℕ
+abbrev pub table_line : LevelRow → List ℕ
 table_line table = line (codes "L" ++ decimal table.level ++ codes " " ++ decimal table.number ++ codes " " ++ word table.lo ++ codes " " ++ word table.hi
     ++ codes " " ++ kind_word table.is_virtual ++ codes " " ++ decimal table.backing)
 
@@ -27,7 +27,7 @@ abbrev pub name_line : List ℕ → List ℕ
 name_line name = line (word name)
 
 abbrev pub refusal_line : Refusal → List ℕ
-refusal_line refusal = line (codes "refused " ++ decimal (number_of refusal) ++ codes " " ++ name_of refusal ++ carried refusal)
+refusal_line refusal = line (codes "refused " ++ decimal (refusal_number refusal) ++ codes " " ++ name_of refusal ++ carried refusal)
 
 abbrev pub printed : Reply → List ℕ
 printed (Opened count) = line (codes "opened " ++ decimal count)

@@ -4,34 +4,34 @@ use Rattle.std.specs.Fmt.{decimal}
 use Rattle.pb_reply.specs.declared.refusal.Refusal.{Refusal}
 use Rattle.pb_reply.specs.declared.refusal.Refusal.TheVariants.{Busy, NotOpen, AlreadyOpen, BadKey, BadSpan, TooLarge, NoTable, Overlap, Outside, TooMany, NumbersSpent, NoObject, NotATable, SuffixClash, NoHandle, Gone, NoPin, NameTaken, WrongStore, Damaged, Missing, DiskFault, BucketFault, NoMemory, Idle, Dropped, BadTable}
 
-abbrev pub number_of : Refusal → ℕ
-number_of Busy = 1
-number_of NotOpen = 2
-number_of AlreadyOpen = 3
-number_of BadKey = 4
-number_of BadSpan = 5
-number_of TooLarge = 6
-number_of NoTable = 7
-number_of (Overlap i j) = 8
-number_of (Outside i) = 9
-number_of (TooMany limit) = 10
-number_of NumbersSpent = 11
-number_of NoObject = 12
-number_of NotATable = 13
-number_of (SuffixClash row) = 14
-number_of NoHandle = 15
-number_of (Gone marker) = 16
-number_of NoPin = 17
-number_of NameTaken = 18
-number_of (WrongStore id) = 19
-number_of (Damaged file) = 20
-number_of (Missing object) = 21
-number_of DiskFault = 22
-number_of BucketFault = 23
-number_of NoMemory = 24
-number_of Idle = 25
-number_of (Dropped table) = 26
-number_of (BadTable i) = 27
+abbrev pub refusal_number : Refusal → ℕ
+refusal_number Busy = 1
+refusal_number NotOpen = 2
+refusal_number AlreadyOpen = 3
+refusal_number BadKey = 4
+refusal_number BadSpan = 5
+refusal_number TooLarge = 6
+refusal_number NoTable = 7
+refusal_number (Overlap i j) = 8
+refusal_number (Outside i) = 9
+refusal_number (TooMany limit) = 10
+refusal_number NumbersSpent = 11
+refusal_number NoObject = 12
+refusal_number NotATable = 13
+refusal_number (SuffixClash row) = 14
+refusal_number NoHandle = 15
+refusal_number (Gone marker) = 16
+refusal_number NoPin = 17
+refusal_number NameTaken = 18
+refusal_number (WrongStore id) = 19
+refusal_number (Damaged file) = 20
+refusal_number (Missing object) = 21
+refusal_number DiskFault = 22
+refusal_number BucketFault = 23
+refusal_number NoMemory = 24
+refusal_number Idle = 25
+refusal_number (Dropped table) = 26
+refusal_number (BadTable i) = 27
 
 abbrev pub name_of : Refusal → List ℕ
 name_of Busy = codes "Busy"

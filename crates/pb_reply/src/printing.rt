@@ -5,7 +5,7 @@ ghost use Rattle.pb_reply.specs.Refusals.{carried};
 
 use crate::pieces::Piece::{Number, Plain, Word};
 use crate::pieces::append;
-use crate::{Listing, Pair, Refusal, Reply, Text};
+use crate::{LevelRow, Pair, Refusal, Reply, Text};
 use std::alloc::{AllocError, Global};
 
 /// Appends what is printed for the reply, line ends included. Without memory `out` is as before.
@@ -84,7 +84,7 @@ fn append_pair(out: &mut Vec<u8>, pair: &Pair) -> Result<(), AllocError>
 }
 
 #[tactic(auto, using(crate::proofs::Growth::front_before))]
-fn append_tables(out: &mut Vec<u8>, tables: &[Listing]) -> Result<(), AllocError>
+fn append_tables(out: &mut Vec<u8>, tables: &[LevelRow]) -> Result<(), AllocError>
     ensures ok { OnOk result (out.new.items ≡ out.old.items ++ printed (Reply.Levels tables.now)) }
     ensures err { OnErr result (take (length out.old.items) out.new.items ≡ out.old.items) }
 {
@@ -98,7 +98,7 @@ fn append_tables(out: &mut Vec<u8>, tables: &[Listing]) -> Result<(), AllocError
     Ok(())
 }
 
-fn append_table(out: &mut Vec<u8>, table: &Listing) -> Result<(), AllocError>
+fn append_table(out: &mut Vec<u8>, table: &LevelRow) -> Result<(), AllocError>
     ensures ok { OnOk result (out.new.items ≡ out.old.items ++ table_line table.now) }
     ensures err { OnErr result (take (length out.old.items) out.new.items ≡ out.old.items) }
 {

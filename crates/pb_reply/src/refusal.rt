@@ -1,5 +1,5 @@
 ghost use Rattle.std.specs.Prelude.{◌≡◌, ◌≤◌};
-ghost use Rattle.pb_reply.specs.Refusals.{name_of, number_of};
+ghost use Rattle.pb_reply.specs.Refusals.{name_of, refusal_number};
 
 use pb_names::Name;
 use thiserror::Error;
@@ -120,7 +120,7 @@ pub enum Refusal {
 impl Refusal {
     /// The number, from 1 to 27.
     pub fn number(&self) -> u64
-        ensures { result ≡ number_of self.now }
+        ensures { result ≡ refusal_number self.now }
     {
         match self {
             Refusal::Busy => 1,

@@ -1,4 +1,4 @@
-use crate::{Listings, Pairs, Refusal, Text, Texts};
+use crate::{LevelRows, Pairs, Refusal, Text, Texts};
 
 /// What a line of a script is answered.
 #[derive(Debug, Drop)]
@@ -33,7 +33,7 @@ pub enum Reply {
     /// The release of one object has ended.
     Released,
     /// The tables of the store.
-    Levels(Listings),
+    Levels(LevelRows),
     /// The names of the objects, ascending.
     Objects(Texts),
     /// The bucket calls of this run.

@@ -5,7 +5,7 @@ use std::marker::Model;
 
 /// A table of a store, as `levels` lists it: its level, its number, its bounds, and the file that it reads.
 #[derive(Debug, Drop)]
-pub struct Listing {
+pub struct LevelRow {
     pub level: u8,
     pub number: u64,
     pub lo: Text,
@@ -14,8 +14,8 @@ pub struct Listing {
     pub backing: u64,
 }
 
-impl Model for Listing {
-    ghost use Rattle.pb_reply.specs.Listing.{Listing as Seen};
+impl Model for LevelRow {
+    ghost use Rattle.pb_reply.specs.LevelRow.{LevelRow as Seen};
 
     ghost Value = { Seen };
 
@@ -24,33 +24,33 @@ impl Model for Listing {
 
 /// The tables of a store, in the order in which `levels` lists them.
 #[derive(Debug, Drop)]
-pub struct Listings {
-    tables: Vec<Listing>,
+pub struct LevelRows {
+    tables: Vec<LevelRow>,
 }
 
-impl Model for Listings {
+impl Model for LevelRows {
     ghost use Rattle.std.specs.Prelude.{List};
-    ghost use Rattle.pb_reply.specs.Listing.{Listing as Seen};
+    ghost use Rattle.pb_reply.specs.LevelRow.{LevelRow as Seen};
 
     ghost Value = { List Seen };
 
     ghost view = { λ list. list.tables.items };
 }
 
-impl Listings {
-    pub fn from_vec(tables: Vec<Listing>) -> Listings
+impl LevelRows {
+    pub fn from_vec(tables: Vec<LevelRow>) -> LevelRows
         ensures { result ≡ tables.items }
     {
-        Listings { tables }
+        LevelRows { tables }
     }
 
-    pub fn into_vec(self) -> Vec<Listing>
+    pub fn into_vec(self) -> Vec<LevelRow>
         ensures { result.items ≡ self }
     {
         self.tables
     }
 
-    pub fn as_slice(&self) -> &[Listing]
+    pub fn as_slice(&self) -> &[LevelRow]
         ensures { result.now ≡ self.now }
     {
         self.tables.as_slice()

@@ -1,7 +1,7 @@
 -- A table as `levels` lists it.
 use Rattle.std.specs.Prelude.{ℕ, Bool, List}
 
-pub record Listing : Type 0 where
+pub record LevelRow : Type 0 where
   pub level : ℕ
   pub number : ℕ
   pub lo : List ℕ

@@ -13,16 +13,13 @@ use Rattle.pb_names.specs.Grammar.{IsName, IsNameByte}
 use Rattle.pb_names.specs.Identity.{IsStore}
 use Rattle.pb_keys.specs.Printed.{is_plain, printed_byte, word}
 use Rattle.pb_script.specs.Answers.{◌>>=◌}
-use Rattle.pb_script.specs.Strings.{hex_pair, with_byte, bytes_of, string_of, name_of, store_of, level_of}
+use Rattle.pb_script.specs.Words.{is_graphic}
+use Rattle.pb_script.specs.Strings.{hex_pair, with_byte, bytes_of, string_of, store_of, level_of}
 use Rattle.pb_script.specs.Fields.{word_at, string_at, name_at, store_at, level_at, pair_at, labelled_at, names_of, some_names_of}
 use Rattle.pb_script.specs.Form.{IsString, AreTables}
 use Rattle.pb_script.specs.Spelling.{letter, digit, labelled}
 use Rattle.pb_script.proofs.Coded.{first_coded, first_plain}
-use Rattle.pb_script.proofs.Names.{is_name_of}
-
--- a byte of a printed word
-abbrev pub is_graphic : ℕ → Bool
-is_graphic byte = nat_le 33 byte && nat_le byte 126
+use Rattle.pb_script.proofs.Names.{name_again}
 
 abbrev pub is_word : List ℕ → Bool
 is_word bytes = nat_lt 0 (length bytes) && list_all is_graphic bytes
@@ -138,9 +135,6 @@ string_at-again bytes words is = ap (λ (s : Option (List ℕ)). s >>= λ string
 pub pair_at-again : (one two : List ℕ) (words : List (List ℕ)) → IsString one → IsString two → pair_at (word one ∷ word two ∷ words) ≡ Some ((one, two), words)
 unfolding pair_at
 pair_at-again one two words is also = rw (string_at-again one (word two ∷ words) is, string_at-again two words also) refl
-
-pub name_again : (name : List ℕ) → IsName name → name_of name ≡ Some name
-name_again name is = cond-true _ _ _ (is_name_of name is)
 
 pub name_at-again : (name : List ℕ) (words : List (List ℕ)) → IsName name → name_at (name ∷ words) ≡ Some (name, words)
 unfolding name_at word_at

@@ -9,9 +9,10 @@ use Rattle.pb_names.specs.Grammar.{IsName}
 use Rattle.pb_keys.specs.Printed.{word}
 use Rattle.pb_script.specs.Answers.{◌>>=◌}
 use Rattle.pb_script.specs.Texts.{texts_of}
+use Rattle.pb_script.specs.Words.{is_graphic}
 use Rattle.pb_script.specs.Lines.{line_of}
 use Rattle.pb_script.specs.TableLines.{table_line_of, is_end, are_end}
-use Rattle.pb_script.specs.Script.{ScriptRead, Lines, Fault, after_line, said, step, ended, behind_text, read_texts, lines_of}
+use Rattle.pb_script.specs.Script.{ScriptRead, Lines, Fault, after_line, said, step, ended, lines_of}
 use Rattle.pb_script.specs.Form.{IsString, IsCommand, IsTableLine, IsLine}
 use Rattle.pb_script.specs.Spelling.{labelled, command_words, table_line_words, lane_words, line_words, spelled_words, with_end, spelled_table_line, spelled_block, spelled_line, spelled_script}
 use Rattle.pb_script.specs.declared.command.Command.{Command}
@@ -25,7 +26,8 @@ use Rattle.pb_script.specs.declared.table_line.TableLine.TheVariants as table
 use Rattle.pb_script.specs.declared.script.Place.{Place}
 use Rattle.pb_script.specs.declared.script.Place.TheVariants.{Between, Within}
 use Rattle.pb_script.proofs.Bools.{both}
-use Rattle.pb_script.proofs.Again.{is_graphic, IsWord, some_length, word_is, name_is_word, letter_is_word, digit_is_word}
+use Rattle.pb_script.proofs.ReadTexts.{behind_text, read_texts, lines_are_read}
+use Rattle.pb_script.proofs.Again.{IsWord, some_length, word_is, name_is_word, letter_is_word, digit_is_word}
 use Rattle.pb_script.proofs.AgainLines.{head, line_again, table_line_again, words_line, words_table_line}
 use Rattle.pb_script.proofs.AgainTexts.{AreWords, words_again, texts_again, begins_otherwise, not_skipped}
 
@@ -212,5 +214,4 @@ lines_from [] are = refl
 lines_from (l ∷ lines) are = next_again l (spelled_script lines) lines are.0 (lines_from lines are.1)
 
 pub lines_again : (lines : List Line) → AllByRecursion IsLine lines → lines_of (spelled_script lines) ≡ Lines lines
-unfolding lines_of
-lines_again lines are = lines_from lines are
+lines_again lines are = lines_are_read (spelled_script lines) ∙ lines_from lines are

@@ -9,9 +9,9 @@ use Rattle.std.proofs.lemmas.List.Folds.{list_all-append}
 use Rattle.std.proofs.lemmas.List.Splits.{slice_split_at, slice_split_none}
 use Rattle.std.proofs.lemmas.List.Sums.{AllPass-from_list_all}
 use Rattle.pb_script.specs.Texts.{texts_of}
-use Rattle.pb_script.specs.Words.{has_bytes, words_of, begins_with_hash, has_no_word, is_skipped}
+use Rattle.pb_script.specs.Words.{is_graphic, has_bytes, words_of, begins_with_hash, has_no_word, is_skipped}
 use Rattle.pb_script.specs.Spelling.{spelled_words, with_end}
-use Rattle.pb_script.proofs.Again.{is_graphic, IsWord}
+use Rattle.pb_script.proofs.Again.{IsWord}
 use Rattle.pb_script.proofs.Bools.{both}
 use Rattle.pb_script.proofs.Parts.{words_cut, words_whole, texts_cut}
 

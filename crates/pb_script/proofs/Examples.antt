@@ -6,7 +6,7 @@ use Rattle.pb_script.specs.Fields.{word_at, string_at, name_at, store_at, level_
 use Rattle.pb_script.specs.Commands.{set_of, get_of, compact_of, external_of, command_of, command_named, tables_named, sharing_named}
 use Rattle.pb_script.specs.Lines.{store_alone, name_alone, open_of, turn_of, lane_of, start_of, whole_named, table_of, family_line, line_named, line_of}
 use Rattle.pb_script.specs.TableLines.{table_set_of, table_line_named, table_line_of, is_end}
-use Rattle.pb_script.specs.Script.{Lines, Fault, said, step, read_texts, lines_of}
+use Rattle.pb_script.specs.Script.{Lines, Fault, said, step, numbered_from, numbered, lines_of}
 use Rattle.pb_script.specs.Texts.{texts_of}
 use Rattle.pb_script.specs.Words.{words_of}
 use Rattle.pb_script.specs.declared.command.Command.TheVariants as command
@@ -62,14 +62,14 @@ suffix_alone = refl
 
 -- the block is one line; what is skipped within says nothing
 block : lines_of (codes "table t\n# x\n\nset k v\nend\n") ≡ Lines (line.Table (codes "t") (table.Set (codes "k") (codes "v") ∷ []) ∷ [])
-unfolding lines_of read_texts step said line_of line_named family_line table_of name_alone word_at name_at pair_at string_at at_end string_of bytes_of is_end table_line_of table_line_named table_set_of
+unfolding lines_of numbered numbered_from step said line_of line_named family_line table_of name_alone word_at name_at pair_at string_at at_end string_of bytes_of is_end table_line_of table_line_named table_set_of
 block = refl
 
 -- a block without its end is a fault behind the last line
 no_end : lines_of (codes "table t\nset k v") ≡ Fault 3
-unfolding lines_of read_texts step said line_of line_named family_line table_of name_alone word_at name_at pair_at string_at at_end string_of bytes_of is_end table_line_of table_line_named table_set_of
+unfolding lines_of numbered numbered_from step said line_of line_named family_line table_of name_alone word_at name_at pair_at string_at at_end string_of bytes_of is_end table_line_of table_line_named table_set_of
 no_end = refl
 
 second_line : lines_of (codes "open A\r\nA get " ++ 127 ∷ 10 ∷ []) ≡ Fault 2
-unfolding lines_of read_texts step said line_of line_named family_line whole_named open_of store_alone store_at word_at at_end command_of command_named get_of string_at string_of bytes_of
+unfolding lines_of numbered numbered_from step said line_of line_named family_line whole_named open_of store_alone store_at word_at at_end command_of command_named get_of string_at string_of bytes_of
 second_line = refl

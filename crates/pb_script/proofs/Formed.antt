@@ -7,9 +7,10 @@ use Rattle.std.specs.Str.{bytes_eq}
 use Rattle.std.proofs.lemmas.Bool.Decides.{nat_tests}
 use Rattle.pb_names.specs.Grammar.{IsName}
 use Rattle.pb_names.specs.Identity.{IsStore}
+use Rattle.pb_names.specs.Ranges.{is_name}
 use Rattle.pb_keys.specs.Printed.{is_plain}
 use Rattle.pb_script.specs.Answers.{◌>>=◌, ◌>>◌}
-use Rattle.pb_script.specs.Strings.{hex_pair, plain, with_byte, bytes_of, string_of, is_name, name_of, store_of, level_of}
+use Rattle.pb_script.specs.Strings.{hex_pair, plain, with_byte, bytes_of, string_of, name_of, store_of, level_of}
 use Rattle.pb_script.specs.Fields.{word_at, string_at, name_at, store_at, level_at, pair_at, labelled_at, names_of, some_names_of}
 use Rattle.pb_script.specs.Form.{IsByte, IsString}
 use Rattle.pb_script.proofs.Names.{name_from_test}

@@ -1,5 +1,5 @@
 -- Each line of a script without a fault is in form.
-use Rattle.std.proofs.Common.{◌≡◌, ℕ, List, [], ◌∷◌, ◌++◌, Option, Some, None, subst}
+use Rattle.std.proofs.Common.{◌≡◌, ℕ, List, [], ◌∷◌, ◌++◌, Option, Some, None, sym, ◌∙◌, subst}
 use Rattle.std.specs.Prelude.{IfSome}
 use Rattle.std.specs.List.{AllByRecursion}
 use Rattle.pb_names.specs.Grammar.{IsName}
@@ -7,7 +7,7 @@ use Rattle.pb_script.specs.Texts.{texts_of}
 use Rattle.pb_script.specs.Words.{is_skipped}
 use Rattle.pb_script.specs.Lines.{line_of}
 use Rattle.pb_script.specs.TableLines.{table_line_of, is_end}
-use Rattle.pb_script.specs.Script.{ScriptRead, Lines, Fault, after_line, said, step, behind_text, at_last, read_texts, lines_of}
+use Rattle.pb_script.specs.Script.{ScriptRead, Lines, Fault, after_line, said, step, lines_of}
 use Rattle.pb_script.specs.Form.{IsTableLine, IsLine}
 use Rattle.pb_script.specs.declared.line.Line.{Line}
 use Rattle.pb_script.specs.declared.line.Line.TheVariants.{Open, Close, Stop, Turn, Levels, Whole, Start, Table, Export, DropHandle, GetAt, Unpin, Objects, Calls}
@@ -15,6 +15,7 @@ use Rattle.pb_script.specs.declared.table_line.TableLine.{TableLine}
 use Rattle.pb_script.specs.declared.script.Place.{Place}
 use Rattle.pb_script.specs.declared.script.Place.TheVariants.{Between, Within}
 use Rattle.pb_script.proofs.Formed.{bind_if, cond_if}
+use Rattle.pb_script.proofs.ReadTexts.{behind_text, last_read, read_texts, lines_are_read}
 use Rattle.pb_script.proofs.FormedLines.{line_in, table_line_in}
 
 abbrev IsPlace : Place → Type 0
@@ -63,7 +64,7 @@ behind_in None (Lines lines) one more = more
 behind_in (Some line) (Lines lines) one more = (one, more)
 behind_in line (Fault number) one more = tt
 
-last_in : (place : Place) → AreRead (at_last place)
+last_in : (place : Place) → AreRead (last_read place)
 last_in Between = tt
 last_in (Within table lines) = tt
 
@@ -80,5 +81,4 @@ texts_in [] place is = last_in place
 texts_in (text ∷ texts) place is = next_in (step place text) texts (step_in place text is) (texts_in texts)
 
 pub lines_in : (script : List ℕ) (lines : List Line) → lines_of script ≡ Lines lines → AllByRecursion IsLine lines
-unfolding lines_of
-lines_in script lines is = subst AreRead is (texts_in (texts_of script) Between tt)
+lines_in script lines is = subst AreRead (sym (lines_are_read script) ∙ is) (texts_in (texts_of script) Between tt)

@@ -1,5 +1,17 @@
 pub mod Bools
 pub mod Parts
+pub mod SpacedLemmas
+pub mod Scanned
+pub mod EndLemmas
+pub mod SkippedLemmas
+pub mod SpellingLemmas
+pub mod FaultLemmas
+pub mod BlockLemmas
+pub mod GraphicWords
+pub mod GraphicLines
+pub mod ByteLemmas
+pub mod ReadTexts
+pub mod KeptNumbers
 pub mod Names
 pub mod Coded
 pub mod Turns
@@ -13,4 +25,3 @@ pub mod Again
 pub mod AgainLines
 pub mod AgainTexts
 pub mod AgainScripts
-pub mod Alone

@@ -1,6 +1,6 @@
-pub mod Held
 pub mod Texts
 pub mod Words
+pub mod Spaced
 pub mod Strings
 pub mod Answers
 pub mod Fields
@@ -8,5 +8,7 @@ pub mod Commands
 pub mod Lines
 pub mod TableLines
 pub mod Script
+pub mod Runs
+pub mod Faults
 pub mod Form
 pub mod Spelling

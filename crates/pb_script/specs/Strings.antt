@@ -1,9 +1,10 @@
 -- How a word spells a byte string, a name, a store or a level.
-use Rattle.std.specs.Prelude.{ℕ, ◌+◌, ◌-◌, ◌*◌, Bool, ◌&&◌, ◌||◌, ◌==◌, if◌then◌else◌, nat_le, nat_lt, List, [], ◌∷◌, length, Option, Some, None, codes}
+use Rattle.std.specs.Prelude.{◌≡◌, ℕ, ◌+◌, ◌-◌, ◌*◌, ◌&&◌, ◌==◌, if◌then◌else◌, nat_le, nat_lt, List, [], ◌∷◌, map, Option, Some, None, codes}
 use Rattle.std.specs.Char.{digit_value}
-use Rattle.std.specs.List.{list_all}
+use Rattle.std.specs.List.{flat_map}
 use Rattle.std.specs.Str.{bytes_eq}
 use Rattle.pb_keys.specs.Printed.{is_plain}
+use Rattle.pb_names.specs.Ranges.{is_name}
 use Rattle.pb_script.specs.Answers.{◌>>=◌}
 
 -- two hexadecimal digits of either case
@@ -34,14 +35,6 @@ unfoldable pub string_of : List ℕ → Option (List ℕ)
 string_of [] = None
 string_of (byte ∷ bytes) = if bytes_eq (byte ∷ bytes) (codes "%") then Some [] else bytes_of (byte ∷ bytes)
 
--- `a` to `z`, `0` to `9`, `_` and `-`
-abbrev pub is_name_byte : ℕ → Bool
-is_name_byte byte = (nat_le 97 byte && nat_le byte 122) || (nat_le 48 byte && nat_le byte 57) || byte == 95 || byte == 45
-
--- 1 to 48 of these bytes
-abbrev pub is_name : List ℕ → Bool
-is_name word = nat_le 1 (length word) && nat_le (length word) 48 && list_all is_name_byte word
-
 abbrev pub name_of : List ℕ → Option (List ℕ)
 name_of word = if is_name word then Some word else None
 
@@ -54,3 +47,21 @@ store_of word = None
 abbrev pub level_of : List ℕ → Option ℕ
 level_of (byte ∷ []) = if nat_le 48 byte && nat_le byte 53 then Some (byte - 48) else None
 level_of word = None
+
+-- a byte in a word: itself, or `%` and two digits
+pub data ByteSpelling : Type 0 where
+  Itself : ℕ → ByteSpelling
+  Coded : ℕ → ℕ → ByteSpelling
+
+abbrev pub spelled_byte : ByteSpelling → List ℕ
+spelled_byte (Itself byte) = byte ∷ []
+spelled_byte (Coded high low) = 37 ∷ high ∷ low ∷ []
+
+-- what it spells: a plain byte itself, and two hexadecimal digits of either case their byte
+abbrev pub meant_byte : ByteSpelling → Option ℕ
+meant_byte (Itself byte) = plain byte
+meant_byte (Coded high low) = hex_pair high low
+
+-- a word that spells these bytes, one by one
+abbrev pub Spells : List ℕ → List ℕ → Type 0
+Spells word bytes = (spellings : List ByteSpelling) × (word ≡ flat_map spelled_byte spellings) × (map meant_byte spellings ≡ map (λ byte. Some byte) bytes)

@@ -1,76 +1,60 @@
-use crate::{Boxed, ByteString, Words};
+use pb_keys::{Boxed, Bytes, List};
 
 /// What a line asks of one store. The commands of three words and more stand in blocks of their own, since a line is as
 /// wide as the widest command in it.
 #[derive(Debug, Drop)]
 pub enum Command {
     /// `set k v`
-    Set {
-        key: ByteString,
-        value: ByteString,
-    },
+    Set { key: Bytes, value: Bytes },
     /// `del k`
-    Del(ByteString),
+    Del(Bytes),
     /// `delrange a b`
-    DelRange {
-        lo: ByteString,
-        hi: ByteString,
-    },
+    DelRange { lo: Bytes, hi: Bytes },
     /// `get k`
-    Get(ByteString),
+    Get(Bytes),
     /// `scan a b`
-    Scan {
-        lo: ByteString,
-        hi: ByteString,
-    },
+    Scan { lo: Bytes, hi: Bytes },
     /// `flush`
     Flush,
     /// `compact L a b`, where the level is 0 to 5
-    Compact {
-        level: u8,
-        lo: ByteString,
-        hi: ByteString,
-    },
+    Compact { level: u8, lo: Bytes, hi: Bytes },
     /// `release`
     Release,
     /// `ingest t..`, one or more tables
-    Ingest(Words),
+    Ingest(List<Bytes>),
     /// `excise a b`
-    Excise {
-        lo: ByteString,
-        hi: ByteString,
-    },
+    Excise { lo: Bytes, hi: Bytes },
     IngestExcise(Boxed<IngestExcise>),
     External(Boxed<External>),
     Lend(Boxed<Lend>),
     /// `receive h`
-    Receive(ByteString),
+    Receive(Bytes),
     /// `pin as p`
-    Pin(ByteString),
+    Pin(Bytes),
 }
 
 /// `ingestexcise a b t..`, one or more tables
 #[derive(Debug, Drop)]
 pub struct IngestExcise {
-    pub lo: ByteString,
-    pub hi: ByteString,
-    pub tables: Words,
+    pub lo: Bytes,
+    pub hi: Bytes,
+    pub tables: List<Bytes>,
 }
 
 /// `external name a b`, then perhaps `prefix=p`, then perhaps `suffix=s`
 #[derive(Debug, Drop)]
 pub struct External {
-    pub name: ByteString,
-    pub lo: ByteString,
-    pub hi: ByteString,
-    pub prefix: Option<ByteString>,
-    pub suffix: Option<ByteString>,
+    pub name: Bytes,
+    pub lo: Bytes,
+    pub hi: Bytes,
+    pub prefix: Option<Bytes>,
+    pub suffix: Option<Bytes>,
 }
 
 /// `lend a b as h`
 #[derive(Debug, Drop)]
 pub struct Lend {
-    pub lo: ByteString,
-    pub hi: ByteString,
-    pub handle: ByteString,
+    pub lo: Bytes,
+    pub hi: Bytes,
+    pub handle: Bytes,
 }

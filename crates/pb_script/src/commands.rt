@@ -7,7 +7,8 @@ use crate::fault::WordFault;
 use crate::fields::{
     at_end, behind, labelled_at, level_at, name_at, pair_at, some_names, string_at, word_at,
 };
-use crate::{Boxed, Command, External, IngestExcise, Lend};
+use crate::{Command, External, IngestExcise, Lend};
+use pb_keys::Boxed;
 use std::alloc::Global;
 
 /// The command that words say.

@@ -49,3 +49,14 @@ impl From<AllocError> for ParseError {
         ParseError::NoMemory
     }
 }
+
+impl<T: Drop> From<AllocFailed<T>> for ParseError {
+    ghost use Rattle.std.specs.Prelude.{◌≡◌};
+    ghost use Rattle.pb_script.specs.declared.fault.ParseError.TheVariants.{NoMemory};
+
+    ghost from_gives = { λ _ error. error ≡ NoMemory };
+
+    fn from(_error: AllocFailed<T>) -> ParseError {
+        ParseError::NoMemory
+    }
+}

@@ -6,7 +6,7 @@ ghost use Rattle.pb_script.specs.Fields.{word_at, string_at, name_at, store_at, 
 use crate::cuts::cut;
 use crate::fault::WordFault;
 use crate::spelling::{read_level, read_name, read_store, read_string};
-use crate::{ByteString, Words};
+use pb_keys::{Bytes, List};
 use std::alloc::Global;
 
 /// The first word of a text, and what stands behind it, `None` where the text has no word.
@@ -49,7 +49,7 @@ pub fn word_at(text: &[u8]) -> Result<(&[u8], &[u8]), WordFault>
 
 /// The byte string that the first word spells, and what stands behind.
 #[tactic(auto, unfolding(crate::specs::Fields::string_at))]
-pub fn string_at(alloc: Global, text: &[u8]) -> Result<(ByteString, &[u8]), WordFault>
+pub fn string_at(alloc: Global, text: &[u8]) -> Result<(Bytes, &[u8]), WordFault>
     ensures { Gives (λ x. (x.0, words_of x.1.now)) result (string_at (words_of text.now)) }
 {
     let (word, rest) = word_at(text)?;
@@ -57,7 +57,7 @@ pub fn string_at(alloc: Global, text: &[u8]) -> Result<(ByteString, &[u8]), Word
 }
 
 #[tactic(auto, unfolding(crate::specs::Fields::name_at))]
-pub fn name_at(alloc: Global, text: &[u8]) -> Result<(ByteString, &[u8]), WordFault>
+pub fn name_at(alloc: Global, text: &[u8]) -> Result<(Bytes, &[u8]), WordFault>
     ensures { Gives (λ x. (x.0, words_of x.1.now)) result (name_at (words_of text.now)) }
 {
     let (word, rest) = word_at(text)?;
@@ -82,7 +82,7 @@ pub fn level_at(text: &[u8]) -> Result<(u8, &[u8]), WordFault>
 
 /// Two byte strings, as a key and its value or the ends of a span.
 #[tactic(auto, unfolding(crate::specs::Fields::pair_at))]
-pub fn pair_at(alloc: Global, text: &[u8]) -> Result<(ByteString, ByteString, &[u8]), WordFault>
+pub fn pair_at(alloc: Global, text: &[u8]) -> Result<(Bytes, Bytes, &[u8]), WordFault>
     ensures { Gives (λ x. ((x.0, x.1), words_of x.2.now)) result (pair_at (words_of text.now)) }
 {
     let (first, rest) = string_at(alloc, text)?;
@@ -119,7 +119,7 @@ pub fn labelled_at<'a>(
     alloc: Global,
     label: &[u8],
     text: &'a [u8],
-) -> Result<(Option<ByteString>, &'a [u8]), WordFault>
+) -> Result<(Option<Bytes>, &'a [u8]), WordFault>
     ensures { Gives (λ x. (x.0, words_of x.1.now)) result (labelled_at label.now (words_of text.now)) }
 {
     let Some((word, rest)) = first_word(text) else {
@@ -133,18 +133,18 @@ pub fn labelled_at<'a>(
 
 /// The names that the words are, one or more.
 #[tactic(auto, unfolding(crate::specs::Fields::some_names_of))]
-pub fn some_names(alloc: Global, text: &[u8]) -> Result<Words, WordFault>
+pub fn some_names(alloc: Global, text: &[u8]) -> Result<List<Bytes>, WordFault>
     ensures { Gives (λ x. x) result (some_names_of (words_of text.now)) }
 {
     let names = names(alloc, text)?;
     if names.is_empty() {
         return Err(WordFault::OffGrammar);
     }
-    Ok(Words::from_vec(names))
+    Ok(List::from_vec(names))
 }
 
 #[tactic(auto, using(crate::proofs::Turns::next_name, crate::proofs::Turns::no_name, crate::proofs::Turns::all_names))]
-fn names(alloc: Global, text: &[u8]) -> Result<Vec<ByteString>, WordFault>
+fn names(alloc: Global, text: &[u8]) -> Result<Vec<Bytes>, WordFault>
     ensures { Gives (λ x. x.items) result (names_of (words_of text.now)) }
 {
     let mut names = Vec::new(alloc);

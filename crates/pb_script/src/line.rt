@@ -1,4 +1,5 @@
-use crate::{ByteString, Command, TableLines};
+use crate::{Command, TableLine};
+use pb_keys::{Bytes, List};
 
 /// The lane of a started command.
 #[derive(Clone, Copy, Debug, PartialEq, Eq)]
@@ -37,23 +38,23 @@ pub enum Line {
     },
     /// `table t`, the lines of its block, and `end`
     Table {
-        table: ByteString,
-        lines: TableLines,
+        table: Bytes,
+        lines: List<TableLine>,
     },
     /// `export t name`
     Export {
-        table: ByteString,
-        name: ByteString,
+        table: Bytes,
+        name: Bytes,
     },
     /// `drop h`
-    DropHandle(ByteString),
+    DropHandle(Bytes),
     /// `get p k`
     GetAt {
-        pin: ByteString,
-        key: ByteString,
+        pin: Bytes,
+        key: Bytes,
     },
     /// `unpin p`
-    Unpin(ByteString),
+    Unpin(Bytes),
     /// `objects`
     Objects,
     /// `calls`

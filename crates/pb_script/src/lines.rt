@@ -6,7 +6,8 @@ use crate::commands::{is_started, read_command};
 use crate::fault::WordFault;
 use crate::fields::{at_end, behind, first_word, name_at, store_at, string_at, word_at};
 use crate::spelling::read_store;
-use crate::{ByteString, Lane, Line, TableLines};
+use crate::{Lane, Line};
+use pb_keys::{Bytes, List};
 use std::alloc::Global;
 
 /// The line that a text says. The first line of a block is a table without lines.
@@ -90,7 +91,7 @@ fn store_alone(words: &[u8]) -> Result<u64, WordFault>
 }
 
 #[tactic(auto, unfolding(crate::specs::Lines::name_alone))]
-fn name_alone(alloc: Global, words: &[u8]) -> Result<ByteString, WordFault>
+fn name_alone(alloc: Global, words: &[u8]) -> Result<Bytes, WordFault>
     ensures { Gives (λ x. x) result (name_alone (words_of words.now)) }
 {
     let (name, rest) = name_at(alloc, words)?;
@@ -164,7 +165,7 @@ fn table(alloc: Global, words: &[u8]) -> Result<Line, WordFault>
     ensures { Gives (λ x. x) result (table_of (words_of words.now)) }
 {
     let table = name_alone(alloc, words)?;
-    let lines = TableLines::from_vec(Vec::new(alloc));
+    let lines = List::from_vec(Vec::new(alloc));
     Ok(Line::Table { table, lines })
 }
 

@@ -5,8 +5,8 @@ ghost use Rattle.pb_keys.specs.Printed.{is_plain};
 ghost use Rattle.pb_script.specs.Answers.{Fails, Gives};
 ghost use Rattle.pb_script.specs.Strings.{hex_pair, with_byte, bytes_of, string_of, name_of, store_of, level_of};
 
-use crate::ByteString;
 use crate::fault::WordFault;
+use pb_keys::Bytes;
 use pb_names::is_name;
 use std::alloc::{AllocError, Global};
 
@@ -14,17 +14,17 @@ use std::alloc::{AllocError, Global};
 // Inlined, since a string that is handed on costs as much as one that is read.
 #[inline(always)]
 #[tactic(auto, unfolding(crate::specs::Strings::string_of))]
-pub fn read_string(alloc: Global, word: &[u8]) -> Result<ByteString, WordFault>
+pub fn read_string(alloc: Global, word: &[u8]) -> Result<Bytes, WordFault>
     ensures { Gives (λ x. x) result (string_of word.now) }
 {
     if word.is_empty() {
         return Err(WordFault::OffGrammar);
     }
     if word == b"%".as_slice() {
-        return Ok(ByteString::new(alloc, b"")?);
+        return Ok(Bytes::new(alloc, b"")?);
     }
     if are_plain(word) {
-        return Ok(ByteString::new(alloc, word)?);
+        return Ok(Bytes::new(alloc, word)?);
     }
     read_coded(alloc, word)
 }
@@ -43,7 +43,7 @@ fn is_plain(byte: u8) -> bool
 }
 
 #[inline(never)]
-fn read_coded(alloc: Global, word: &[u8]) -> Result<ByteString, WordFault>
+fn read_coded(alloc: Global, word: &[u8]) -> Result<Bytes, WordFault>
     ensures { Gives (λ x. x) result (bytes_of word.now) }
 {
     let mut bytes = Vec::new(alloc);
@@ -53,7 +53,7 @@ fn read_coded(alloc: Global, word: &[u8]) -> Result<ByteString, WordFault>
         bytes.push(byte)?;
         rest = behind;
     }
-    Ok(ByteString::new(alloc, bytes.as_slice())?)
+    Ok(Bytes::new(alloc, bytes.as_slice())?)
 }
 
 /// The first byte that the text spells, and what stands behind it.
@@ -81,13 +81,13 @@ fn hex_pair(high: u8, low: u8) -> Result<u8, WordFault>
 }
 
 /// The name that a word is.
-pub fn read_name(alloc: Global, word: &[u8]) -> Result<ByteString, WordFault>
+pub fn read_name(alloc: Global, word: &[u8]) -> Result<Bytes, WordFault>
     ensures { Gives (λ x. x) result (name_of word.now) }
 {
     if !is_name(word) {
         return Err(WordFault::OffGrammar);
     }
-    Ok(ByteString::new(alloc, word)?)
+    Ok(Bytes::new(alloc, word)?)
 }
 
 /// The number of the store that a word is: 1 for `A` to 8 for `H`.

@@ -1,6 +1,5 @@
 -- What holds of every answer.
-use Rattle.std.proofs.Common.{◌≡◌, Result, Ok, Err, [], sym, subst}
-use Rattle.std.specs.Prelude.{◌-◌}
+use Rattle.std.proofs.Common.{◌≡◌, Result, Ok, Err, sym, subst}
 use Rattle.pb_marker_world.specs.declared.events.Event.{Event}
 use Rattle.pb_marker_world.specs.declared.events.Outcome.{Outcome}
 use Rattle.pb_marker_world.specs.declared.events.WorldError.{WorldError}
@@ -8,7 +7,7 @@ use Rattle.pb_marker_world.specs.declared.events.WorldError.TheVariants.{NotNow,
 use Rattle.pb_marker_world.specs.Sound.{IsSteady}
 use Rattle.pb_marker_world.specs.Book.{Book, world_of}
 use Rattle.pb_marker_world.specs.Events.{IsDone, Meets}
-use Rattle.pb_marker_world.proofs.Steady.{goes_steady, empty_steady}
+use Rattle.pb_marker_world.proofs.Steady.{goes_steady}
 
 -- what is done with some lists is done with other lists of the same items
 pub done_as : (b x y : Book) (event : Event) (answer outcome : Outcome) → IsDone b event outcome y → answer ≡ outcome
@@ -23,20 +22,5 @@ done_as b x y event answer outcome d a ps ss os ids ms gs =
 pub meets_steady : (b : Book) (event : Event) (r : Result Outcome WorldError) (c : Book) → Meets b event r c
     → IsSteady (world_of b) → IsSteady (world_of c)
 meets_steady b event (Ok outcome) c m steady = goes_steady (world_of b) m.store m.step (world_of c) steady m.went
-meets_steady b event (Err NotNow) c m steady = subst (λ x. IsSteady (world_of x)) (sym m.0) steady
-meets_steady b event (Err NoMemory) c m steady = subst (λ x. IsSteady (world_of x)) (sym m) steady
-
-pub new_steady : (c : Book) → c.places ≡ [] → c.spent ≡ [] → c.openings ≡ [] → c.objects ≡ [] → c.markers ≡ [] → c.given ≡ []
-    → IsSteady (world_of c)
-new_steady c ps ss os ids ms gs =
-    let empty : Book = record { places = []; spent = []; openings = []; objects = []; markers = []; given = [] } in
-    let same : empty ≡ c =
-    λ i. record {
-      places = sym ps i;
-      spent = sym ss i;
-      openings = sym os i;
-      objects = sym ids i;
-      markers = sym ms i;
-      given = sym gs i;
-    } in
-    subst (λ x. IsSteady (world_of x)) same empty_steady
+meets_steady b event (Err NotNow) c m steady = subst (λ x. IsSteady (world_of x)) (sym m.same) steady
+meets_steady b event (Err NoMemory) c m steady = subst (λ x. IsSteady (world_of x)) (sym m.same) steady

@@ -10,13 +10,11 @@ use Rattle.pb_marker_world.specs.declared.records.Opening.{Opening}
 use Rattle.pb_marker_world.specs.Machine.{Marker, Entry, Part, Names, Lending, Local, local_of, with_local}
 use Rattle.pb_marker_world.specs.Steps.{with_part, with_entry, with_used, with_lendings, moved, crashed}
 use Rattle.pb_marker_world.specs.Book.{Book, is_place, is_spent_as, is_used_in, entry_in, opening_in, part_of, has_object, has_marker, world_of, written, loosened}
+use Rattle.pb_marker_world.proofs.Worlds.{names_path}
 use Rattle.pb_marker_world.proofs.Lists.{list_any-push, list_any-map, is_place-written, is_place-loosened, entry_in-written, entry_in-written_else, entry_in-push_new, entry_in-push_else, entry_in-loosened, entry_in-loosened_else}
 
 part_path : (p q : Part) → p.opening ≡ q.opening → ((k : ℕ) → p.used k ≡ q.used k) → ((k : ℕ) → p.entries k ≡ q.entries k) → p ≡ q
 part_path p q a b c = λ i. record { opening = a i; used = λ k. b k i; entries = λ k. c k i }
-
-names_path : (p q : Names) → ((o : Identity) → p.objects o ≡ q.objects o) → ((m : Marker) → p.markers m ≡ q.markers m) → p ≡ q
-names_path p q a b = λ i. record { objects = λ o. a o i; markers = λ m. b m i }
 
 -- a world with one part changed
 pub world_is : (b c : Book) (s : ℕ) (l : Local) → part_of c s ≡ l.part → ((t : ℕ) → (t ≡ s → ⊥) → part_of c t ≡ part_of b t)

@@ -1,27 +1,37 @@
 -- A store is closed, stopped or lost, and all its entries but those kept are Loose: a steady world stays steady.
-use Rattle.std.proofs.Common.{◌≡◌, ℕ, ◌+◌, ◌≤◌, Bool, true, false, ◌⊎◌, inl, inr, Option, Some, None, List, refl, sym, ap, ◌∙◌, subst, arith}
-use Rattle.std.specs.Prelude.{slice_get, ◌==◌, if◌then◌else◌}
+use Rattle.std.proofs.Common.{◌≡◌, ℕ, ◌+◌, Bool, true, false, ◌⊎◌, inl, inr, Option, Some, None, List, refl, sym, ap, ◌∙◌, subst, arith}
+use Rattle.std.specs.Prelude.{◌==◌, if◌then◌else◌}
 use Rattle.std.specs.List.{list_any}
 use Rattle.std.specs.Option.{option_map}
 use Rattle.std.proofs.lemmas.Bool.{both_ways, cases_Bool, cases_eq, cond-true, cond-false}
 use Rattle.pb_names.specs.Identity.{Identity}
 use Rattle.pb_marker_world.specs.declared.stages.Stage.{Stage}
-use Rattle.pb_marker_world.specs.declared.stages.Stage.TheVariants.{Intended, Put, Held, Loose, Counted}
-use Rattle.pb_marker_world.specs.Machine.{Marker, Entry, Part, Lending, World, local_of, with_local, entry_at, identity, own_marker}
+use Rattle.pb_marker_world.specs.declared.stages.Stage.TheVariants.{Loose, Counted}
+use Rattle.pb_marker_world.specs.Machine.{Marker, Entry, Part, World, local_of, with_local, entry_at, own_marker}
 use Rattle.pb_marker_world.specs.Steps.{settled, with_part, crashed}
-use Rattle.pb_marker_world.specs.Sound.{shows_marker, may_show_marker, is_on_its_way, is_beginning, is_put, answers_for_object, IsDoomed, IsLent, IsLentSafely, HoldsUnder, IsFresh, IsSteady}
+use Rattle.pb_marker_world.specs.Sound.{shows_marker, may_show_marker, is_on_its_way, is_beginning, is_put, answers_for_object, IsDoomed, IsLent, IsSteady, OwnMarkersStand, HeldObjectsStand, LentMarkersAreSafe, OpenHandlesLendHeld, MarkersAreAccounted, ObjectsAreAnswered, EntriesUseNumbers, BeginningsAreFresh, IntendedMakeTheirOwn, PutAreTheirOwn, LendersAreOfTheObject, HandlesAreOfThePast}
 use Rattle.pb_marker_world.proofs.Worlds.{part_here, part_there, used_kept}
 use Rattle.pb_marker_world.proofs.Tests.{same_some}
-use Rattle.pb_marker_world.proofs.Moves.{IsAnswered, S7_objects_from, S7_markers_from}
+use Rattle.pb_marker_world.proofs.Moves.{S7_objects_from, S7_markers_from}
 
 -- the entry is as before, or Loose with no lender any more
 abbrev pub IsLoosened : Entry → Entry → Type 0
 IsLoosened old new = (new ≡ old) ⊎ (new ≡ settled old Loose)
 
-mapped_back : (f : Entry → Entry) (o : Option Entry) (x : Entry) → option_map f o ≡ Some x
-    → (y : Entry) × (o ≡ Some y) × (x ≡ f y)
-mapped_back f None x p = absurd (cc)
-mapped_back f (Some y) x p = (y, refl, sym (same_some (f y) x p))
+-- what stands in one of the worlds, where this entry stands in the other
+record Was (o : Option Entry) (x : Entry) : Type 0 where
+  entry : Entry
+  stands : o ≡ Some entry
+  how : IsLoosened entry x
+
+record Is (o : Option Entry) (y : Entry) : Type 0 where
+  entry : Entry
+  stands : o ≡ Some entry
+  how : IsLoosened y entry
+
+mapped_back : (o : Option Entry) (x : Entry) → option_map (λ e. settled e Loose) o ≡ Some x → Was o x
+mapped_back None x p = absurd (cc)
+mapped_back (Some y) x p = record { entry = y; stands = refl; how = inr (sym (same_some (settled y Loose) x p)) }
 
 module _ (w : World) (s : ℕ) (kept : List ℕ) (b : IsSteady w) where
   abbrev v : World
@@ -38,26 +48,28 @@ module _ (w : World) (s : ℕ) (kept : List ℕ) (b : IsSteady w) where
   outside t k q =
       ap (λ (p : Part). p.entries k) (part_there w s (with_part (local_of w s) (crashed (w.parts s) kept)) t q)
 
-  back : (t k : ℕ) (x : Entry) → entry_at v t k ≡ Some x → (y : Entry) × (entry_at w t k ≡ Some y) × IsLoosened y x
+  back : (t k : ℕ) (x : Entry) → entry_at v t k ≡ Some x → Was (entry_at w t k) x
   back t k x p =
       elim (cases_eq t s) [
         | inl q ↦ elim (cases_Bool (list_any (λ n. n == k) kept)) [
-          | inl r ↦ (x, sym (inside t k q ∙ cond-true _ _ _ r) ∙ p, inl refl)
-          | inr r ↦
-              let u = mapped_back (λ e. settled e Loose) (entry_at w t k) x (sym (inside t k q ∙ cond-false _ _ _ r) ∙ p) in
-              (u.0, u.1, inr u.2)
+          | inl r ↦ record { entry = x; stands = sym (inside t k q ∙ cond-true _ _ _ r) ∙ p; how = inl refl }
+          | inr r ↦ mapped_back (entry_at w t k) x (sym (inside t k q ∙ cond-false _ _ _ r) ∙ p)
         ]
-        | inr q ↦ (x, sym (outside t k q) ∙ p, inl refl)
+        | inr q ↦ record { entry = x; stands = sym (outside t k q) ∙ p; how = inl refl }
       ]
 
-  forth : (t k : ℕ) (y : Entry) → entry_at w t k ≡ Some y → (x : Entry) × (entry_at v t k ≡ Some x) × IsLoosened y x
+  forth : (t k : ℕ) (y : Entry) → entry_at w t k ≡ Some y → Is (entry_at v t k) y
   forth t k y p =
       elim (cases_eq t s) [
         | inl q ↦ elim (cases_Bool (list_any (λ n. n == k) kept)) [
-          | inl r ↦ (y, inside t k q ∙ (cond-true _ _ _ r ∙ p), inl refl)
-          | inr r ↦ (settled y Loose, inside t k q ∙ (cond-false _ _ _ r ∙ ap (λ o. option_map (λ e. settled e Loose) o) p), inr refl)
+          | inl r ↦ record { entry = y; stands = inside t k q ∙ (cond-true _ _ _ r ∙ p); how = inl refl }
+          | inr r ↦ record {
+            entry = settled y Loose;
+            stands = inside t k q ∙ (cond-false _ _ _ r ∙ ap (λ o. option_map (λ e. settled e Loose) o) p);
+            how = inr refl;
+          }
         ]
-        | inr q ↦ (y, outside t k q ∙ p, inl refl)
+        | inr q ↦ record { entry = y; stands = outside t k q ∙ p; how = inl refl }
       ]
 
   same_object : (y x : Entry) → IsLoosened y x → x.object ≡ y.object
@@ -69,10 +81,17 @@ module _ (w : World) (s : ℕ) (kept : List ℕ) (b : IsSteady w) where
 
   doomed_back : (o : Identity) → IsDoomed v o → IsDoomed w o
   doomed_back o d =
-      let u = back d.0 d.1 d.2 d.3 in
-      elim u.2 [
-        | inl q ↦ (d.0, d.1, u.0, u.1, ap (λ (a : Entry). a.object) (sym q) ∙ d.4, ap (λ (a : Entry). a.stage) (sym q) ∙ d.5)
-        | inr q ↦ let clash : Loose ≡ Counted = ap (λ (a : Entry). a.stage) (sym q) ∙ d.5 in absurd (cc)
+      let u = back d.store d.number d.entry d.stands in
+      elim u.how [
+        | inl q ↦ record {
+          store = d.store;
+          number = d.number;
+          entry = u.entry;
+          stands = u.stands;
+          same = ap (λ (a : Entry). a.object) (sym q) ∙ d.same;
+          counted = ap (λ (a : Entry). a.stage) (sym q) ∙ d.counted;
+        }
+        | inr q ↦ let clash : Loose ≡ Counted = ap (λ (a : Entry). a.stage) (sym q) ∙ d.counted in absurd (cc)
       ]
 
   lender_back : (y x : Entry) (m : Marker) → IsLoosened y x → x.lender ≡ Some m → y.lender ≡ Some m
@@ -86,7 +105,15 @@ module _ (w : World) (s : ℕ) (kept : List ℕ) (b : IsSteady w) where
   lent_back m l =
       elim l [
         | inl d ↦ inl d
-        | inr d ↦ let u = back d.0 d.1 d.2 d.3 in inr (d.0, d.1, u.0, u.1, lender_back u.0 d.2 m u.2 d.4)
+        | inr d ↦
+            let u = back d.store d.number d.entry d.stands in
+            inr (record {
+              store = d.store;
+              number = d.number;
+              entry = u.entry;
+              stands = u.stands;
+              lent = lender_back u.entry d.entry m u.how d.lent;
+            })
       ]
 
   -- a stage that Loose isn't at was there before
@@ -97,25 +124,24 @@ module _ (w : World) (s : ℕ) (kept : List ℕ) (b : IsSteady w) where
         | inr q ↦ absurd (both_ways (test x.stage) (ap (λ (a : Entry). test a.stage) q ∙ lost) p)
       ]
 
-  lost_S1 : (t k : ℕ) (x : Entry) → entry_at v t k ≡ Some x → shows_marker x.stage ≡ true
-      → w.names.markers (own_marker t k x) ≡ true
+  lost_S1 : OwnMarkersStand v
   lost_S1 t k x p q =
       let u = back t k x p in
-      let same = stage_back shows_marker u.0 x refl u.2 q in
+      let same = stage_back shows_marker u.entry x refl u.how q in
       ap (λ (a : Entry). w.names.markers (own_marker t k a)) same
-      ∙ b.sound.S1 t k u.0 u.1 (ap (λ (a : Entry). shows_marker a.stage) (sym same) ∙ q)
+      ∙ b.sound.S1 t k u.entry u.stands (ap (λ (a : Entry). shows_marker a.stage) (sym same) ∙ q)
 
-  lost_S2 : (t k : ℕ) (x : Entry) → entry_at v t k ≡ Some x → x.stage ≡ Held
-      → (w.names.objects x.object ≡ true) × (IsDoomed v x.object → ⊥)
+  lost_S2 : HeldObjectsStand v
   lost_S2 t k x p q =
       let u = back t k x p in
-      let same = stage_back shows_marker u.0 x refl u.2 (ap shows_marker q) in
-      let held = b.sound.S2 t k u.0 u.1 (ap (λ (a : Entry). a.stage) (sym same) ∙ q) in (
-        ap (λ (a : Entry). w.names.objects a.object) same ∙ held.0,
-        λ d. held.1 (subst (λ (a : Entry). IsDoomed w a.object) same (doomed_back x.object d)),
-      )
+      let same = stage_back shows_marker u.entry x refl u.how (ap shows_marker q) in
+      let held = b.sound.S2 t k u.entry u.stands (ap (λ (a : Entry). a.stage) (sym same) ∙ q) in
+      record {
+        present = ap (λ (a : Entry). w.names.objects a.object) same ∙ held.present;
+        spared = λ d. held.spared (subst (λ (a : Entry). IsDoomed w a.object) same (doomed_back x.object d));
+      }
 
-  lost_S3 : (m : Marker) → IsLent v m → IsLentSafely v m
+  lost_S3 : LentMarkersAreSafe v
   lost_S3 m l =
       let g = b.sound.S3 m (lent_back m l) in
       record {
@@ -123,9 +149,9 @@ module _ (w : World) (s : ℕ) (kept : List ℕ) (b : IsSteady w) where
         object_number = used m.object.creator m.object.number ∙ g.object_number;
         arrived = λ x p q.
             let u = back m.store m.number x p in
-            elim u.2 [
+            elim u.how [
               | inl r ↦ ap (λ (a : Entry). is_on_its_way a.stage) r
-                  ∙ g.arrived u.0 u.1 (ap (λ (a : Entry). a.object) (sym r) ∙ q)
+                  ∙ g.arrived u.entry u.stands (ap (λ (a : Entry). a.object) (sym r) ∙ q)
               | inr r ↦ ap (λ (a : Entry). is_on_its_way a.stage) r
             ];
         stands = g.stands;
@@ -141,8 +167,7 @@ module _ (w : World) (s : ℕ) (kept : List ℕ) (b : IsSteady w) where
   opening_there t q =
       ap (λ (p : Part). p.opening) (part_there w s (with_part (local_of w s) (crashed (w.parts s) kept)) t q)
 
-  lost_S4 : (h : ℕ) (g : Lending) (k : ℕ) (m : Marker) → slice_get w.lendings h ≡ Some g → g.is_open ≡ true
-      → g.opening ≡ (v.parts g.store).opening → slice_get g.markers k ≡ Some m → HoldsUnder v g.store m
+  lost_S4 : OpenHandlesLendHeld v
   lost_S4 h g k m p a q r =
       elim (cases_eq g.store s) [
         | inl here ↦
@@ -151,87 +176,85 @@ module _ (w : World) (s : ℕ) (kept : List ℕ) (b : IsSteady w) where
             absurd (omega arith)
         | inr there ↦
             let u = b.sound.S4 h g k m p a (q ∙ opening_there g.store there) r in
-            (u.0, outside g.store m.number there ∙ u.1, u.2, u.3)
+            record { entry = u.entry; stands = outside g.store m.number there ∙ u.stands; held = u.held; own = u.own }
       ]
 
-  lost_S5 : (m : Marker) → w.names.markers m ≡ true
-      → (x : Entry) × (entry_at v m.store m.number ≡ Some x) × (x.object ≡ m.object) × (may_show_marker x.stage ≡ true)
+  lost_S5 : MarkersAreAccounted v
   lost_S5 m p =
       let u = b.sound.S5 m p in
-      let z = forth m.store m.number u.0 u.1 in (
-        z.0,
-        z.1,
-        same_object u.0 z.0 z.2 ∙ u.2,
-        elim z.2 [
-          | inl q ↦ ap (λ (a : Entry). may_show_marker a.stage) q ∙ u.3
+      let z = forth m.store m.number u.entry u.stands in
+      record {
+        entry = z.entry;
+        stands = z.stands;
+        same = same_object u.entry z.entry z.how ∙ u.same;
+        shows = elim z.how [
+          | inl q ↦ ap (λ (a : Entry). may_show_marker a.stage) q ∙ u.shows
           | inr q ↦ ap (λ (a : Entry). may_show_marker a.stage) q
-        ],
-      )
+        ];
+      }
 
-  lost_S6 : (o : Identity) → w.names.objects o ≡ true → IsAnswered v o
+  lost_S6 : ObjectsAreAnswered v
   lost_S6 o p =
       let u = b.sound.S6 o p in
-      let z = forth u.0 u.1 u.2 u.3 in (
-        u.0,
-        u.1,
-        z.0,
-        z.1,
-        same_object u.2 z.0 z.2 ∙ u.4,
-        elim z.2 [
-          | inl q ↦ ap (λ (a : Entry). answers_for_object a.stage) q ∙ u.5
+      let z = forth u.store u.number u.entry u.stands in
+      record {
+        store = u.store;
+        number = u.number;
+        entry = z.entry;
+        stands = z.stands;
+        same = same_object u.entry z.entry z.how ∙ u.same;
+        answers = elim z.how [
+          | inl q ↦ ap (λ (a : Entry). answers_for_object a.stage) q ∙ u.answers
           | inr q ↦ ap (λ (a : Entry). answers_for_object a.stage) q
-        ],
-      )
+        ];
+      }
 
-  lost_S7 : (t k : ℕ) (x : Entry) → entry_at v t k ≡ Some x
-      → ((v.parts t).used k ≡ true) × ((v.parts x.object.creator).used x.object.number ≡ true)
+  lost_S7 : EntriesUseNumbers v
   lost_S7 t k x p =
       let u = back t k x p in
-      let z = b.sound.S7_entries t k u.0 u.1 in (
-        used t k ∙ z.0,
-        used x.object.creator x.object.number
-            ∙ (ap (λ (a : Identity). (w.parts a.creator).used a.number) (same_object u.0 x u.2) ∙ z.1),
-      )
+      let z = b.sound.S7_entries t k u.entry u.stands in
+      record {
+        own = used t k ∙ z.own;
+        object = used x.object.creator x.object.number
+            ∙ (ap (λ (a : Identity). (w.parts a.creator).used a.number) (same_object u.entry x u.how) ∙ z.object);
+      }
 
-  lost_S8 : (t k : ℕ) (x : Entry) → entry_at v t k ≡ Some x → x.object ≡ identity t k → is_beginning x.stage ≡ true
-      → IsFresh v t k x
+  lost_S8 : BeginningsAreFresh v
   lost_S8 t k x p o r =
       let u = back t k x p in
-      let same = stage_back is_beginning u.0 x refl u.2 r in
-      let fresh = b.sound.S8 t k u.0 u.1 (ap (λ (a : Entry). a.object) (sym same) ∙ o)
+      let same = stage_back is_beginning u.entry x refl u.how r in
+      let fresh = b.sound.S8 t k u.entry u.stands (ap (λ (a : Entry). a.object) (sym same) ∙ o)
       (ap (λ (a : Entry). is_beginning a.stage) (sym same) ∙ r) in
       record {
         unmarked = λ m q. fresh.unmarked m (q ∙ ap (λ (a : Entry). a.object) same);
         alone = λ t2 k2 x2 p2 o2.
             let z = back t2 k2 x2 p2 in
-            fresh.alone t2 k2 z.0 z.1 (sym (same_object z.0 x2 z.2) ∙ (o2 ∙ ap (λ (a : Entry). a.object) same));
+            fresh.alone t2 k2 z.entry z.stands (sym (same_object z.entry x2 z.how) ∙ (o2 ∙ ap (λ (a : Entry). a.object) same));
         unlent = λ m d q. fresh.unlent m d (q ∙ ap (λ (a : Entry). a.object) same);
         present = ap (λ (a : Entry). w.names.objects a.object) same
             ∙ (fresh.present ∙ ap (λ (a : Entry). is_put a.stage) (sym same));
       }
 
-  lost_makes_own : (t k : ℕ) (x : Entry) → entry_at v t k ≡ Some x → x.stage ≡ Intended → x.lender ≡ None
-      → x.object ≡ identity t k
+  lost_makes_own : IntendedMakeTheirOwn v
   lost_makes_own t k x p q r =
       let u = back t k x p in
-      let same = stage_back is_beginning u.0 x refl u.2 (ap is_beginning q) in
+      let same = stage_back is_beginning u.entry x refl u.how (ap is_beginning q) in
       ap (λ (a : Entry). a.object) same
-      ∙ b.makes_own t k u.0 u.1 (ap (λ (a : Entry). a.stage) (sym same) ∙ q) (ap (λ (a : Entry). a.lender) (sym same) ∙ r)
+      ∙ b.makes_own t k u.entry u.stands (ap (λ (a : Entry). a.stage) (sym same) ∙ q) (ap (λ (a : Entry). a.lender) (sym same) ∙ r)
 
-  lost_put_own : (t k : ℕ) (x : Entry) → entry_at v t k ≡ Some x → x.stage ≡ Put
-      → (x.object ≡ identity t k) × (x.lender ≡ None)
+  lost_put_own : PutAreTheirOwn v
   lost_put_own t k x p q =
       let u = back t k x p in
-      let same = stage_back is_beginning u.0 x refl u.2 (ap is_beginning q) in
-      let z = b.put_own t k u.0 u.1 (ap (λ (a : Entry). a.stage) (sym same) ∙ q) in
-      (ap (λ (a : Entry). a.object) same ∙ z.0, ap (λ (a : Entry). a.lender) same ∙ z.1)
+      let same = stage_back is_beginning u.entry x refl u.how (ap is_beginning q) in
+      let z = b.put_own t k u.entry u.stands (ap (λ (a : Entry). a.stage) (sym same) ∙ q) in
+      record { object = ap (λ (a : Entry). a.object) same ∙ z.object; no_lender = ap (λ (a : Entry). a.lender) same ∙ z.no_lender }
 
-  lost_same_object : (t k : ℕ) (x : Entry) (m : Marker) → entry_at v t k ≡ Some x → x.lender ≡ Some m → m.object ≡ x.object
+  lost_same_object : LendersAreOfTheObject v
   lost_same_object t k x m p q =
       let u = back t k x p in
-      b.same_object t k u.0 m u.1 (lender_back u.0 x m u.2 q) ∙ sym (same_object u.0 x u.2)
+      b.same_object t k u.entry m u.stands (lender_back u.entry x m u.how q) ∙ sym (same_object u.entry x u.how)
 
-  lost_past : (h : ℕ) (g : Lending) → slice_get w.lendings h ≡ Some g → g.opening ≤ (v.parts g.store).opening
+  lost_past : HandlesAreOfThePast v
   lost_past h g p =
       let past = b.past h g p in
       elim (cases_eq g.store s) [

@@ -1,6 +1,6 @@
 -- The events of one entry on the lists: that each has happened.
-use Rattle.std.proofs.Common.{◌≡◌, ℕ, ◌+◌, true, false, ◌⊎◌, inl, inr, Option, Some, None, [], ◌∷◌, ◌++◌, refl, sym, ap, ◌∙◌}
-use Rattle.std.specs.Prelude.{◌-◌, not, if◌then◌else◌}
+use Rattle.std.proofs.Common.{◌≡◌, ℕ, true, false, ◌⊎◌, inl, inr, Option, Some, None, [], ◌∷◌, ◌++◌, refl, sym, ap, ◌∙◌}
+use Rattle.std.specs.Prelude.{not, if◌then◌else◌}
 use Rattle.std.specs.List.{list_any, filter}
 use Rattle.std.proofs.lemmas.Bool.{both_ways, cases_Bool, cond-true, cond-false}
 use Rattle.pb_marker_world.specs.declared.stages.Stage.{Stage}
@@ -30,12 +30,12 @@ module _ (b : Book) (at : ℕ) (f : Found) (found : IsFoundAt b.places at f) whe
         store = f.store;
         step = PutsObject f.number;
         asked = asked_at b at PutsObject f found;
-        went = (
-          moved (local_of w f.store) f.number (at_stage f.entry Put) names,
-          (f.entry, (found.4, st), ln, refl),
-          world-written b f.store f.number f.entry (at_stage f.entry Put) (b.objects ++ f.entry.object ∷ []) b.markers names found.4
-              (λ o. has_object-push b.objects f.entry.object o) (λ m. refl),
-        );
+        went = record {
+          after = moved (local_of w f.store) f.number (at_stage f.entry Put) names;
+          happens = record { entry = f.entry; at = record { stands = found.stands; come = st }; no_lender = ln; left = refl };
+          left = world-written b f.store f.number f.entry (at_stage f.entry Put) (b.objects ++ f.entry.object ∷ []) b.markers names found.stands
+              (λ o. has_object-push b.objects f.entry.object o) (λ m. refl);
+        };
         room = tt;
         answered = refl;
         same_places = kept_places b f.store f.number (Some (at_stage f.entry Put));
@@ -53,12 +53,12 @@ module _ (b : Book) (at : ℕ) (f : Found) (found : IsFoundAt b.places at f) whe
         store = f.store;
         step = PutsMarker f.number;
         asked = asked_at b at PutsMarker f found;
-        went = (
-          moved (local_of w f.store) f.number (at_stage f.entry stage) names,
-          how f.entry.stage f.entry.lender refl refl q,
-          world-written b f.store f.number f.entry (at_stage f.entry stage) b.objects (b.markers ++ own ∷ []) names found.4
-              (λ o. refl) (λ m. has_marker-push b.markers own m),
-        );
+        went = record {
+          after = moved (local_of w f.store) f.number (at_stage f.entry stage) names;
+          happens = how f.entry.stage f.entry.lender refl refl q;
+          left = world-written b f.store f.number f.entry (at_stage f.entry stage) b.objects (b.markers ++ own ∷ []) names found.stands
+              (λ o. refl) (λ m. has_marker-push b.markers own m);
+        };
         room = tt;
         answered = refl;
         same_places = kept_places b f.store f.number (Some (at_stage f.entry stage));
@@ -68,24 +68,24 @@ module _ (b : Book) (at : ℕ) (f : Found) (found : IsFoundAt b.places at f) whe
           → Happens f.store (local_of (world_of b) f.store) (PutsMarker f.number)
           (moved (local_of (world_of b) f.store) f.number (at_stage f.entry stage)
           (with_marker (world_of b).names (own_marker f.store f.number f.entry)))
-      how Put ln p r h = (
-        f.entry,
-        inl (
-          (found.4, p),
-          ap (λ x. moved (local_of (world_of b) f.store) f.number (at_stage f.entry x)
-              (with_marker (world_of b).names (own_marker f.store f.number f.entry))) (sym (same_some Held stage h)),
-        ),
-      )
-      how Intended (Some m) p r h = (
-        f.entry,
-        inr (
-          (found.4, p),
-          m,
-          r,
-          ap (λ x. moved (local_of (world_of b) f.store) f.number (at_stage f.entry x)
-              (with_marker (world_of b).names (own_marker f.store f.number f.entry))) (sym (same_some Marked stage h)),
-        ),
-      )
+      how Put ln p r h = record {
+        entry = f.entry;
+        how = inl (record {
+          at = record { stands = found.stands; come = p };
+          left = ap (λ x. moved (local_of (world_of b) f.store) f.number (at_stage f.entry x)
+              (with_marker (world_of b).names (own_marker f.store f.number f.entry))) (sym (same_some Held stage h));
+        });
+      }
+      how Intended (Some m) p r h = record {
+        entry = f.entry;
+        how = inr (record {
+          at = record { stands = found.stands; come = p };
+          lender = m;
+          lent = r;
+          left = ap (λ x. moved (local_of (world_of b) f.store) f.number (at_stage f.entry x)
+              (with_marker (world_of b).names (own_marker f.store f.number f.entry))) (sym (same_some Marked stage h));
+        });
+      }
       how Intended None p r h = absurd (cc)
       how Marked ln p r h = absurd (cc)
       how Held ln p r h = absurd (cc)
@@ -109,16 +109,16 @@ module _ (b : Book) (at : ℕ) (f : Found) (found : IsFoundAt b.places at f) whe
         store = f.store;
         step = Checks f.number;
         asked = asked_at b at Checks f found;
-        went = (
-          moved (local_of w f.store) f.number next w.names,
-          (
-            f.entry,
-            (found.4, st),
-            ap (λ x. moved (local_of w f.store) f.number (settled f.entry (if x then Held else Loose)) w.names)
-                (lenders_agree f.entry.lender),
-          ),
-          world-written b f.store f.number f.entry next b.objects b.markers w.names found.4 (λ o. refl) (λ m. refl),
-        );
+        went = record {
+          after = moved (local_of w f.store) f.number next w.names;
+          happens = record {
+            entry = f.entry;
+            at = record { stands = found.stands; come = st };
+            left = ap (λ x. moved (local_of w f.store) f.number (settled f.entry (if x then Held else Loose)) w.names)
+                (lenders_agree f.entry.lender);
+          };
+          left = world-written b f.store f.number f.entry next b.objects b.markers w.names found.stands (λ o. refl) (λ m. refl);
+        };
         room = tt;
         answered = ap (λ o. Present (lender_found b o)) (sym (placed_at b.places at f found));
         same_places = kept_places b f.store f.number (Some next);
@@ -138,12 +138,20 @@ module _ (b : Book) (at : ℕ) (f : Found) (found : IsFoundAt b.places at f) whe
         store = f.store;
         step = DeletesMarker f.number;
         asked = asked_at b at DeletesMarker f found;
-        went = (
-          moved (local_of w f.store) f.number (at_stage f.entry Bare) names,
-          (f.entry, elim st [ inl q ↦ inl (found.4, q) | inr q ↦ inr (found.4, q) ], free, refl),
-          world-written b f.store f.number f.entry (at_stage f.entry Bare) b.objects markers names found.4
-              (λ o. refl) (λ m. has_marker-forget b.markers own m),
-        );
+        went = record {
+          after = moved (local_of w f.store) f.number (at_stage f.entry Bare) names;
+          happens = record {
+            entry = f.entry;
+            at = elim st [
+              | inl q ↦ inl (record { stands = found.stands; come = q })
+              | inr q ↦ inr (record { stands = found.stands; come = q })
+            ];
+            unprotected = free;
+            left = refl;
+          };
+          left = world-written b f.store f.number f.entry (at_stage f.entry Bare) b.objects markers names found.stands
+              (λ o. refl) (λ m. has_marker-forget b.markers own m);
+        };
         room = tt;
         answered = refl;
         same_places = kept_places b f.store f.number (Some (at_stage f.entry Bare));
@@ -151,19 +159,20 @@ module _ (b : Book) (at : ℕ) (f : Found) (found : IsFoundAt b.places at f) whe
 
   marked_if : list_any (λ m. same_identity m.object f.entry.object) b.markers ≡ true → IsMarked (world_of b).names f.entry.object
   marked_if p =
-      let u = list_any_find (λ (m : Marker). same_identity m.object f.entry.object) b.markers p in (
-        u.1,
-        identity_is u.1.object f.entry.object u.3,
-        list_any_at (λ x. same_marker x u.1) b.markers u.0 u.1 u.2 (marker_self u.1 u.1 refl),
-      )
+      let u = list_any_find (λ (m : Marker). same_identity m.object f.entry.object) b.markers p in
+      record {
+        marker = u.item;
+        same = identity_is u.item.object f.entry.object u.passes;
+        present = list_any_at (λ x. same_marker x u.item) b.markers u.at u.item u.there (marker_self u.item u.item refl);
+      }
 
   unmarked_if : list_any (λ m. same_identity m.object f.entry.object) b.markers ≡ false
       → IsMarked (world_of b).names f.entry.object → ⊥
   unmarked_if p m =
-      let u = list_any_find (λ x. same_marker x m.0) b.markers m.2 in
+      let u = list_any_find (λ x. same_marker x m.marker) b.markers m.present in
       both_ways (list_any (λ (x : Marker). same_identity x.object f.entry.object) b.markers) p
-      (list_any_at (λ (x : Marker). same_identity x.object f.entry.object) b.markers u.0 u.1 u.2
-      (identity_self u.1.object f.entry.object (ap (λ (x : Marker). x.object) (marker_is u.1 m.0 u.3) ∙ m.1)))
+      (list_any_at (λ (x : Marker). same_identity x.object f.entry.object) b.markers u.at u.item u.there
+      (identity_self u.item.object f.entry.object (ap (λ (x : Marker). x.object) (marker_is u.item m.marker u.passes) ∙ m.same)))
 
   pub count_done : f.entry.stage ≡ Bare
       → IsDone b (Count at) (Any (list_any (λ m. same_identity m.object f.entry.object) b.markers))
@@ -178,24 +187,24 @@ module _ (b : Book) (at : ℕ) (f : Found) (found : IsFoundAt b.places at f) whe
         store = f.store;
         step = Counts f.number;
         asked = asked_at b at Counts f found;
-        went = (
-          moved (local_of w f.store) f.number next w.names,
-          (
-            f.entry,
-            (found.4, st),
-            elim (cases_Bool any) [
-              | inl q ↦ inr (
-                marked_if q,
-                ap (λ x. moved (local_of w f.store) f.number (at_stage f.entry x) w.names) (cond-true any Ended Counted q),
-              )
-              | inr q ↦ inl (
-                unmarked_if q,
-                ap (λ x. moved (local_of w f.store) f.number (at_stage f.entry x) w.names) (cond-false any Ended Counted q),
-              )
-            ],
-          ),
-          world-written b f.store f.number f.entry next b.objects b.markers w.names found.4 (λ o. refl) (λ m. refl),
-        );
+        went = record {
+          after = moved (local_of w f.store) f.number next w.names;
+          happens = record {
+            entry = f.entry;
+            at = record { stands = found.stands; come = st };
+            how = elim (cases_Bool any) [
+              | inl q ↦ inr (record {
+                some = marked_if q;
+                left = ap (λ x. moved (local_of w f.store) f.number (at_stage f.entry x) w.names) (cond-true any Ended Counted q);
+              })
+              | inr q ↦ inl (record {
+                none = unmarked_if q;
+                left = ap (λ x. moved (local_of w f.store) f.number (at_stage f.entry x) w.names) (cond-false any Ended Counted q);
+              })
+            ];
+          };
+          left = world-written b f.store f.number f.entry next b.objects b.markers w.names found.stands (λ o. refl) (λ m. refl);
+        };
         room = tt;
         answered = ap (λ o. Any (marker_found b o)) (sym (placed_at b.places at f found));
         same_places = kept_places b f.store f.number (Some next);
@@ -213,12 +222,12 @@ module _ (b : Book) (at : ℕ) (f : Found) (found : IsFoundAt b.places at f) whe
         store = f.store;
         step = DeletesObject f.number;
         asked = asked_at b at DeletesObject f found;
-        went = (
-          moved (local_of w f.store) f.number (at_stage f.entry Ended) names,
-          (f.entry, (found.4, st), refl),
-          world-written b f.store f.number f.entry (at_stage f.entry Ended) objects b.markers names found.4
-              (λ o. has_object-forget b.objects f.entry.object o) (λ m. refl),
-        );
+        went = record {
+          after = moved (local_of w f.store) f.number (at_stage f.entry Ended) names;
+          happens = record { entry = f.entry; at = record { stands = found.stands; come = st }; left = refl };
+          left = world-written b f.store f.number f.entry (at_stage f.entry Ended) objects b.markers names found.stands
+              (λ o. has_object-forget b.objects f.entry.object o) (λ m. refl);
+        };
         room = tt;
         answered = refl;
         same_places = kept_places b f.store f.number (Some (at_stage f.entry Ended));
@@ -232,11 +241,11 @@ module _ (b : Book) (at : ℕ) (f : Found) (found : IsFoundAt b.places at f) whe
         store = f.store;
         step = Drops f.number;
         asked = asked_at b at Drops f found;
-        went = (
-          with_part (local_of w f.store) (with_entry (part_of b f.store) f.number None),
-          (f.entry, (found.4, st), refl),
-          world-dropped b f.store f.number f.entry found.4,
-        );
+        went = record {
+          after = with_part (local_of w f.store) (with_entry (part_of b f.store) f.number None);
+          happens = record { entry = f.entry; at = record { stands = found.stands; come = st }; left = refl };
+          left = world-dropped b f.store f.number f.entry found.stands;
+        };
         room = tt;
         answered = refl;
         same_places = kept_places b f.store f.number None;

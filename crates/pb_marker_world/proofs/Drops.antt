@@ -1,15 +1,14 @@
 -- An entry that has Ended goes: a steady world stays steady.
-use Rattle.std.proofs.Common.{◌≡◌, ℕ, ◌≤◌, true, inl, inr, Some, None, refl, sym, ap, ◌∙◌, subst}
-use Rattle.std.specs.Prelude.{slice_get}
+use Rattle.std.proofs.Common.{◌≡◌, ℕ, ◌≤◌, inl, inr, Some, None, refl, sym, ap, ◌∙◌, subst}
 use Rattle.std.proofs.lemmas.Bool.{both_ways}
 use Rattle.pb_names.specs.Identity.{Identity}
 use Rattle.pb_marker_world.specs.declared.stages.Stage.TheVariants.{Held, Ended}
-use Rattle.pb_marker_world.specs.Machine.{Marker, Entry, Lending, World, local_of, with_local, entry_at, identity}
+use Rattle.pb_marker_world.specs.Machine.{Marker, Entry, World, local_of, with_local, entry_at}
 use Rattle.pb_marker_world.specs.Steps.{with_part, with_entry}
-use Rattle.pb_marker_world.specs.Sound.{may_show_marker, is_beginning, answers_for_object, IsDoomed, IsLent, IsLentSafely, HoldsUnder, IsFresh, IsSteady}
+use Rattle.pb_marker_world.specs.Sound.{may_show_marker, answers_for_object, IsDoomed, IsLent, IsSteady, LentMarkersAreSafe, OpenHandlesLendHeld, MarkersAreAccounted, ObjectsAreAnswered, EntriesUseNumbers, BeginningsAreFresh}
 use Rattle.pb_marker_world.proofs.Worlds.{place_cases, entry_set, entry_kept, opening_kept, used_kept}
 use Rattle.pb_marker_world.proofs.Tests.{same_entry}
-use Rattle.pb_marker_world.proofs.Moves.{IsAnswered, S7_objects_from, S7_markers_from}
+use Rattle.pb_marker_world.proofs.Moves.{S7_objects_from, S7_markers_from}
 
 module _ (w : World) (s n : ℕ) (e : Entry) (b : IsSteady w) (here : entry_at w s n ≡ Some e) (ended : e.stage ≡ Ended) where
   abbrev v : World
@@ -39,12 +38,30 @@ module _ (w : World) (s n : ℕ) (e : Entry) (b : IsSteady w) (here : entry_at w
   used t k = used_kept w s (with_part (local_of w s) (with_entry (w.parts s) n None)) refl t k
 
   doomed_back : (o : Identity) → IsDoomed v o → IsDoomed w o
-  doomed_back o d = (d.0, d.1, d.2, back d.0 d.1 d.2 d.3, d.4, d.5)
+  doomed_back o d =
+      record {
+        store = d.store;
+        number = d.number;
+        entry = d.entry;
+        stands = back d.store d.number d.entry d.stands;
+        same = d.same;
+        counted = d.counted;
+      }
 
   lent_back : (m : Marker) → IsLent v m → IsLent w m
-  lent_back m l = elim l [ inl d ↦ inl d | inr d ↦ inr (d.0, d.1, d.2, back d.0 d.1 d.2 d.3, d.4) ]
+  lent_back m l =
+      elim l [
+        | inl d ↦ inl d
+        | inr d ↦ inr (record {
+          store = d.store;
+          number = d.number;
+          entry = d.entry;
+          stands = back d.store d.number d.entry d.stands;
+          lent = d.lent;
+        })
+      ]
 
-  left_S3 : (m : Marker) → IsLent v m → IsLentSafely v m
+  left_S3 : LentMarkersAreSafe v
   left_S3 m l =
       let g = b.sound.S3 m (lent_back m l) in
       record {
@@ -55,45 +72,45 @@ module _ (w : World) (s n : ℕ) (e : Entry) (b : IsSteady w) (here : entry_at w
         safe = λ p d. g.safe p (doomed_back m.object d);
       }
 
-  left_S4 : (h : ℕ) (g : Lending) (k : ℕ) (m : Marker) → slice_get w.lendings h ≡ Some g → g.is_open ≡ true
-      → g.opening ≡ (v.parts g.store).opening → slice_get g.markers k ≡ Some m → HoldsUnder v g.store m
+  left_S4 : OpenHandlesLendHeld v
   left_S4 h g k m p a q r =
-      let u = b.sound.S4 h g k m p a (q ∙ opening g.store) r in (
-        u.0,
-        forth g.store m.number u.0 u.1 (λ y. let clash : Held ≡ Ended = sym u.2 ∙ y in absurd (cc)),
-        u.2,
-        u.3,
-      )
+      let u = b.sound.S4 h g k m p a (q ∙ opening g.store) r in
+      record {
+        entry = u.entry;
+        stands = forth g.store m.number u.entry u.stands (λ y. let clash : Held ≡ Ended = sym u.held ∙ y in absurd (cc));
+        held = u.held;
+        own = u.own;
+      }
 
-  left_S5 : (m : Marker) → w.names.markers m ≡ true
-      → (x : Entry) × (entry_at v m.store m.number ≡ Some x) × (x.object ≡ m.object) × (may_show_marker x.stage ≡ true)
+  left_S5 : MarkersAreAccounted v
   left_S5 m p =
-      let u = b.sound.S5 m p in (
-        u.0,
-        forth m.store m.number u.0 u.1 (λ y. both_ways (may_show_marker u.0.stage) (ap may_show_marker y) u.3),
-        u.2,
-        u.3,
-      )
+      let u = b.sound.S5 m p in
+      record {
+        entry = u.entry;
+        stands = forth m.store m.number u.entry u.stands (λ y. both_ways (may_show_marker u.entry.stage) (ap may_show_marker y) u.shows);
+        same = u.same;
+        shows = u.shows;
+      }
 
-  left_S6 : (o : Identity) → w.names.objects o ≡ true → IsAnswered v o
+  left_S6 : ObjectsAreAnswered v
   left_S6 o p =
-      let u = b.sound.S6 o p in (
-        u.0,
-        u.1,
-        u.2,
-        forth u.0 u.1 u.2 u.3 (λ y. both_ways (answers_for_object u.2.stage) (ap answers_for_object y) u.5),
-        u.4,
-        u.5,
-      )
+      let u = b.sound.S6 o p in
+      record {
+        store = u.store;
+        number = u.number;
+        entry = u.entry;
+        stands = forth u.store u.number u.entry u.stands
+            (λ y. both_ways (answers_for_object u.entry.stage) (ap answers_for_object y) u.answers);
+        same = u.same;
+        answers = u.answers;
+      }
 
-  left_S7 : (t k : ℕ) (x : Entry) → entry_at v t k ≡ Some x
-      → ((v.parts t).used k ≡ true) × ((v.parts x.object.creator).used x.object.number ≡ true)
+  left_S7 : EntriesUseNumbers v
   left_S7 t k x p =
       let u = b.sound.S7_entries t k x (back t k x p) in
-      (used t k ∙ u.0, used x.object.creator x.object.number ∙ u.1)
+      record { own = used t k ∙ u.own; object = used x.object.creator x.object.number ∙ u.object }
 
-  left_S8 : (t k : ℕ) (x : Entry) → entry_at v t k ≡ Some x → x.object ≡ identity t k → is_beginning x.stage ≡ true
-      → IsFresh v t k x
+  left_S8 : BeginningsAreFresh v
   left_S8 t k x p o r =
       let fresh = b.sound.S8 t k x (back t k x p) o r in
       record {
@@ -108,7 +125,9 @@ module _ (w : World) (s n : ℕ) (e : Entry) (b : IsSteady w) (here : entry_at w
       record {
         sound = record {
           S1 = λ t k x p. b.sound.S1 t k x (back t k x p);
-          S2 = λ t k x p q. let u = b.sound.S2 t k x (back t k x p) q in (u.0, λ d. u.1 (doomed_back x.object d));
+          S2 = λ t k x p q.
+              let u = b.sound.S2 t k x (back t k x p) q in
+              record { present = u.present; spared = λ d. u.spared (doomed_back x.object d) };
           S3 = left_S3;
           S4 = left_S4;
           S5 = left_S5;

@@ -1,21 +1,18 @@
 -- A new entry under a number that wasn't used keeps a steady world steady.
 use Rattle.std.proofs.Common.{◌≡◌, ℕ, ◌≤◌, true, false, ◌⊎◌, inl, inr, Option, Some, None, refl, sym, ap, ◌∙◌, subst}
-use Rattle.std.specs.Prelude.{slice_get, ◌==◌}
+use Rattle.std.specs.Prelude.{◌==◌}
 use Rattle.std.proofs.lemmas.Bool.{both_ways, false≢true, false_from_ne_true, or_left, or_right, cases_eq, eq-eqb}
 use Rattle.pb_names.specs.Identity.{Identity}
 use Rattle.pb_marker_world.specs.declared.stages.Stage.TheVariants.{Intended, Put, Held, Counted}
-use Rattle.pb_marker_world.specs.Machine.{Marker, Entry, Part, Lending, World, local_of, with_local, entry_at, identity, own_marker}
-use Rattle.pb_marker_world.specs.Steps.{IsOffered, MayIntend, with_part, with_entry, with_used}
-use Rattle.pb_marker_world.specs.Sound.{shows_marker, may_show_marker, is_beginning, is_put, IsDoomed, IsLent, IsLentSafely, HoldsUnder, IsFresh, IsSteady}
+use Rattle.pb_marker_world.specs.Machine.{Marker, Entry, Part, World, local_of, with_local, entry_at, identity}
+use Rattle.pb_marker_world.specs.Steps.{MayIntend, OffersObject, new_entry, with_part, with_entry, with_used}
+use Rattle.pb_marker_world.specs.Sound.{shows_marker, is_put, IsDoomed, IsLent, IsFresh, IsSteady, OwnMarkersStand, HeldObjectsStand, LentMarkersAreSafe, OpenHandlesLendHeld, MarkersAreAccounted, ObjectsAreAnswered, EntriesUseNumbers, BeginningsAreFresh, IntendedMakeTheirOwn, PutAreTheirOwn, LendersAreOfTheObject}
 use Rattle.pb_marker_world.proofs.Worlds.{place_cases, part_here, part_there, entry_set, entry_kept, opening_kept}
 use Rattle.pb_marker_world.proofs.Tests.{same_some}
-use Rattle.pb_marker_world.proofs.Moves.{IsAnswered, S7_objects_from, S7_markers_from}
-
-abbrev pub intended : Identity → Option Marker → Entry
-intended o lender = record { object = o; lender = lender; stage = Intended }
+use Rattle.pb_marker_world.proofs.Moves.{S7_objects_from, S7_markers_from}
 
 abbrev pub part_intending : Part → ℕ → Identity → Option Marker → Part
-part_intending part n o lender = with_entry (with_used part n) n (Some (intended o lender))
+part_intending part n o lender = with_entry (with_used part n) n (Some (new_entry o lender))
 
 module _ (w : World) (s n : ℕ) (o : Identity) (lender : Option Marker) (b : IsSteady w)
     (unused : (w.parts s).used n ≡ false) (may : MayIntend s (local_of w s) n o lender) where
@@ -23,17 +20,17 @@ module _ (w : World) (s n : ℕ) (o : Identity) (lender : Option Marker) (b : Is
   v = with_local w s (with_part (local_of w s) (part_intending (w.parts s) n o lender))
 
   back : (t k : ℕ) (x : Entry) → entry_at v t k ≡ Some x
-      → ((t ≡ s) × (k ≡ n) × (x ≡ intended o lender)) ⊎ (entry_at w t k ≡ Some x)
+      → ((t ≡ s) × (k ≡ n) × (x ≡ new_entry o lender)) ⊎ (entry_at w t k ≡ Some x)
   back t k x p =
       let l = with_part (local_of w s) (part_intending (w.parts s) n o lender) in
       elim (place_cases t k s n) [
         | inl a ↦ inl (
           a.0,
           a.1,
-          same_some x (intended o lender)
-              (sym p ∙ entry_set w s n l (Some (intended o lender)) (λ k. refl) t k a.0 a.1),
+          same_some x (new_entry o lender)
+              (sym p ∙ entry_set w s n l (Some (new_entry o lender)) (λ k. refl) t k a.0 a.1),
         )
-        | inr a ↦ inr (sym (entry_kept w s n l (Some (intended o lender)) (λ k. refl) t k a) ∙ p)
+        | inr a ↦ inr (sym (entry_kept w s n l (Some (new_entry o lender)) (λ k. refl) t k a) ∙ p)
       ]
 
   forth : (t k : ℕ) (x : Entry) → entry_at w t k ≡ Some x → entry_at v t k ≡ Some x
@@ -41,8 +38,8 @@ module _ (w : World) (s n : ℕ) (o : Identity) (lender : Option Marker) (b : Is
       let l = with_part (local_of w s) (part_intending (w.parts s) n o lender) in
       elim (place_cases t k s n) [
         | inl a ↦ absurd (both_ways ((w.parts s).used n) unused
-            (ap (λ y. (w.parts s).used y) (sym a.1) ∙ (ap (λ y. (w.parts y).used k) (sym a.0) ∙ (b.sound.S7_entries t k x p).0)))
-        | inr a ↦ entry_kept w s n l (Some (intended o lender)) (λ k. refl) t k a ∙ p
+            (ap (λ y. (w.parts s).used y) (sym a.1) ∙ (ap (λ y. (w.parts y).used k) (sym a.0) ∙ (b.sound.S7_entries t k x p).own)))
+        | inr a ↦ entry_kept w s n l (Some (new_entry o lender)) (λ k. refl) t k a ∙ p
       ]
 
   opening : (t : ℕ) → (v.parts t).opening ≡ (w.parts t).opening
@@ -62,16 +59,20 @@ module _ (w : World) (s n : ℕ) (o : Identity) (lender : Option Marker) (b : Is
       let l = with_part (local_of w s) (part_intending (w.parts s) n o lender) in
       ap (λ (x : Part). x.used k) (part_here w s l t q) ∙ or_left (k == n) ((w.parts s).used k) (eq-eqb k n r)
 
-  -- the object is one that the number makes, or a handle offers a marker of it
-  origin : (o ≡ identity s n) ⊎ ((m : Marker) × IsOffered w.lendings m × (m.object ≡ o))
+  -- a handle offers a marker of the object
+  record IsFromHandle : Type 0 where
+    marker : Marker
+    offers : OffersObject w.lendings marker o
+
+  -- the object is one that the number makes, or is from a handle
+  origin : (o ≡ identity s n) ⊎ IsFromHandle
   origin = go lender may
     where
-      go : (x : Option Marker) → MayIntend s (local_of w s) n o x
-          → (o ≡ identity s n) ⊎ ((m : Marker) × IsOffered w.lendings m × (m.object ≡ o))
+      go : (x : Option Marker) → MayIntend s (local_of w s) n o x → (o ≡ identity s n) ⊎ IsFromHandle
       go None p = inl p
-      go (Some m) p = inr (m, p.0, p.1)
+      go (Some m) p = inr (record { marker = m; offers = p })
 
-  from_handle : (m : Marker) → lender ≡ Some m → IsOffered w.lendings m × (m.object ≡ o)
+  from_handle : (m : Marker) → lender ≡ Some m → OffersObject w.lendings m o
   from_handle m q = subst (λ x. MayIntend s (local_of w s) n o x) q may
 
   alone_own : lender ≡ None → o ≡ identity s n
@@ -87,43 +88,51 @@ module _ (w : World) (s n : ℕ) (o : Identity) (lender : Option Marker) (b : Is
       elim origin [
         | inl q ↦ used_here o.creator o.number (ap (λ (y : Identity). y.creator) q) (ap (λ (y : Identity). y.number) q)
         | inr q ↦ used_more o.creator o.number
-            (ap (λ (y : Identity). (w.parts y.creator).used y.number) (sym q.2) ∙ (b.sound.S3 q.0 (inl q.1)).object_number)
+            (ap (λ (y : Identity). (w.parts y.creator).used y.number) (sym q.offers.same)
+            ∙ (b.sound.S3 q.marker (inl q.offers.offered)).object_number)
       ]
 
   doomed_back : (q : Identity) → IsDoomed v q → IsDoomed w q
   doomed_back q d =
-      elim (back d.0 d.1 d.2 d.3) [
-        | inl r ↦ let clash : Intended ≡ Counted = ap (λ (y : Entry). y.stage) (sym r.2) ∙ d.5 in absurd (cc)
-        | inr r ↦ (d.0, d.1, d.2, r, d.4, d.5)
+      elim (back d.store d.number d.entry d.stands) [
+        | inl r ↦ let clash : Intended ≡ Counted = ap (λ (y : Entry). y.stage) (sym r.2) ∙ d.counted in absurd (cc)
+        | inr r ↦ record {
+          store = d.store;
+          number = d.number;
+          entry = d.entry;
+          stands = r;
+          same = d.same;
+          counted = d.counted;
+        }
       ]
 
   lent_back : (m : Marker) → IsLent v m → IsLent w m
   lent_back m l =
       elim l [
         | inl d ↦ inl d
-        | inr d ↦ elim (back d.0 d.1 d.2 d.3) [
-          | inl r ↦ inl (from_handle m (ap (λ (y : Entry). y.lender) (sym r.2) ∙ d.4)).0
-          | inr r ↦ inr (d.0, d.1, d.2, r, d.4)
+        | inr d ↦ elim (back d.store d.number d.entry d.stands) [
+          | inl r ↦ inl (from_handle m (ap (λ (y : Entry). y.lender) (sym r.2) ∙ d.lent)).offered
+          | inr r ↦ inr (record { store = d.store; number = d.number; entry = d.entry; stands = r; lent = d.lent })
         ]
       ]
 
-  new_S1 : (t k : ℕ) (x : Entry) → entry_at v t k ≡ Some x → shows_marker x.stage ≡ true
-      → w.names.markers (own_marker t k x) ≡ true
+  new_S1 : OwnMarkersStand v
   new_S1 t k x p q =
       elim (back t k x p) [
         | inl r ↦ absurd (false≢true (ap (λ (y : Entry). shows_marker y.stage) (sym r.2) ∙ q))
         | inr r ↦ b.sound.S1 t k x r q
       ]
 
-  new_S2 : (t k : ℕ) (x : Entry) → entry_at v t k ≡ Some x → x.stage ≡ Held
-      → (w.names.objects x.object ≡ true) × (IsDoomed v x.object → ⊥)
+  new_S2 : HeldObjectsStand v
   new_S2 t k x p q =
       elim (back t k x p) [
         | inl r ↦ let clash : Intended ≡ Held = ap (λ (y : Entry). y.stage) (sym r.2) ∙ q in absurd (cc)
-        | inr r ↦ let u = b.sound.S2 t k x r q in (u.0, λ d. u.1 (doomed_back x.object d))
+        | inr r ↦
+            let u = b.sound.S2 t k x r q in
+            record { present = u.present; spared = λ d. u.spared (doomed_back x.object d) }
       ]
 
-  new_S3 : (m : Marker) → IsLent v m → IsLentSafely v m
+  new_S3 : LentMarkersAreSafe v
   new_S3 m l =
       let g = b.sound.S3 m (lent_back m l) in
       record {
@@ -138,28 +147,38 @@ module _ (w : World) (s n : ℕ) (o : Identity) (lender : Option Marker) (b : Is
         safe = λ p d. g.safe p (doomed_back m.object d);
       }
 
-  new_S4 : (h : ℕ) (g : Lending) (k : ℕ) (m : Marker) → slice_get w.lendings h ≡ Some g → g.is_open ≡ true
-      → g.opening ≡ (v.parts g.store).opening → slice_get g.markers k ≡ Some m → HoldsUnder v g.store m
+  new_S4 : OpenHandlesLendHeld v
   new_S4 h g k m p a q r =
       let u = b.sound.S4 h g k m p a (q ∙ opening g.store) r in
-      (u.0, forth g.store m.number u.0 u.1, u.2, u.3)
+      record { entry = u.entry; stands = forth g.store m.number u.entry u.stands; held = u.held; own = u.own }
 
-  new_S5 : (m : Marker) → w.names.markers m ≡ true
-      → (e : Entry) × (entry_at v m.store m.number ≡ Some e) × (e.object ≡ m.object) × (may_show_marker e.stage ≡ true)
-  new_S5 m p = let u = b.sound.S5 m p in (u.0, forth m.store m.number u.0 u.1, u.2, u.3)
+  new_S5 : MarkersAreAccounted v
+  new_S5 m p =
+      let u = b.sound.S5 m p in
+      record { entry = u.entry; stands = forth m.store m.number u.entry u.stands; same = u.same; shows = u.shows }
 
-  new_S6 : (q : Identity) → w.names.objects q ≡ true → IsAnswered v q
-  new_S6 q p = let u = b.sound.S6 q p in (u.0, u.1, u.2, forth u.0 u.1 u.2 u.3, u.4, u.5)
+  new_S6 : ObjectsAreAnswered v
+  new_S6 q p =
+      let u = b.sound.S6 q p in
+      record {
+        store = u.store;
+        number = u.number;
+        entry = u.entry;
+        stands = forth u.store u.number u.entry u.stands;
+        same = u.same;
+        answers = u.answers;
+      }
 
-  new_S7 : (t k : ℕ) (x : Entry) → entry_at v t k ≡ Some x
-      → ((v.parts t).used k ≡ true) × ((v.parts x.object.creator).used x.object.number ≡ true)
+  new_S7 : EntriesUseNumbers v
   new_S7 t k x p =
       elim (back t k x p) [
-        | inl r ↦ (
-          used_here t k r.0 r.1,
-          ap (λ (y : Entry). (v.parts y.object.creator).used y.object.number) r.2 ∙ object_used,
-        )
-        | inr r ↦ let u = b.sound.S7_entries t k x r in (used_more t k u.0, used_more x.object.creator x.object.number u.1)
+        | inl r ↦ record {
+          own = used_here t k r.0 r.1;
+          object = ap (λ (y : Entry). (v.parts y.object.creator).used y.object.number) r.2 ∙ object_used;
+        }
+        | inr r ↦
+            let u = b.sound.S7_entries t k x r in
+            record { own = used_more t k u.own; object = used_more x.object.creator x.object.number u.object }
       ]
 
   own_object : (t k : ℕ) (x : Entry) → t ≡ s → k ≡ n → x.object ≡ identity t k → x.object ≡ identity s n
@@ -172,7 +191,7 @@ module _ (w : World) (s n : ℕ) (o : Identity) (lender : Option Marker) (b : Is
             not_used m.object (q ∙ same) (b.sound.S7_markers m y).1);
         alone = λ t2 k2 x2 p2 o2. elim (back t2 k2 x2 p2) [
           | inl r ↦ (r.0 ∙ sym ts, r.1 ∙ sym kn)
-          | inr r ↦ absurd (not_used x2.object (o2 ∙ same) (b.sound.S7_entries t2 k2 x2 r).1)
+          | inr r ↦ absurd (not_used x2.object (o2 ∙ same) (b.sound.S7_entries t2 k2 x2 r).object)
         ];
         unlent = λ m d q. not_used m.object (q ∙ same) (b.sound.S3 m (inl d)).object_number;
         present =
@@ -188,8 +207,8 @@ module _ (w : World) (s n : ℕ) (o : Identity) (lender : Option Marker) (b : Is
           | inl r ↦
               let same : o ≡ x.object = ap (λ (y : Entry). y.object) (sym r.2) ∙ o2 in
               absurd (elim origin [
-                | inl q ↦ not_used x.object (sym same ∙ q) (b.sound.S7_entries t k x p).1
-                | inr q ↦ fresh.unlent q.0 q.1 (q.2 ∙ same)
+                | inl q ↦ not_used x.object (sym same ∙ q) (b.sound.S7_entries t k x p).object
+                | inr q ↦ fresh.unlent q.marker q.offers.offered (q.offers.same ∙ same)
               ])
           | inr r ↦ fresh.alone t2 k2 x2 r o2
         ];
@@ -197,16 +216,14 @@ module _ (w : World) (s n : ℕ) (o : Identity) (lender : Option Marker) (b : Is
         present = fresh.present;
       }
 
-  new_S8 : (t k : ℕ) (x : Entry) → entry_at v t k ≡ Some x → x.object ≡ identity t k → is_beginning x.stage ≡ true
-      → IsFresh v t k x
+  new_S8 : BeginningsAreFresh v
   new_S8 t k x p q r =
       elim (back t k x p) [
         | inl z ↦ fresh_here t k x z.0 z.1 (own_object t k x z.0 z.1 q) (ap (λ (y : Entry). y.stage) z.2)
         | inr z ↦ fresh_there t k x z (b.sound.S8 t k x z q r)
       ]
 
-  new_makes_own : (t k : ℕ) (x : Entry) → entry_at v t k ≡ Some x → x.stage ≡ Intended → x.lender ≡ None
-      → x.object ≡ identity t k
+  new_makes_own : IntendedMakeTheirOwn v
   new_makes_own t k x p q r =
       elim (back t k x p) [
         | inl z ↦ ap (λ (y : Entry). y.object) z.2
@@ -214,18 +231,17 @@ module _ (w : World) (s n : ℕ) (o : Identity) (lender : Option Marker) (b : Is
         | inr z ↦ b.makes_own t k x z q r
       ]
 
-  new_put_own : (t k : ℕ) (x : Entry) → entry_at v t k ≡ Some x → x.stage ≡ Put
-      → (x.object ≡ identity t k) × (x.lender ≡ None)
+  new_put_own : PutAreTheirOwn v
   new_put_own t k x p q =
       elim (back t k x p) [
         | inl z ↦ let clash : Intended ≡ Put = ap (λ (y : Entry). y.stage) (sym z.2) ∙ q in absurd (cc)
         | inr z ↦ b.put_own t k x z q
       ]
 
-  new_same_object : (t k : ℕ) (x : Entry) (m : Marker) → entry_at v t k ≡ Some x → x.lender ≡ Some m → m.object ≡ x.object
+  new_same_object : LendersAreOfTheObject v
   new_same_object t k x m p q =
       elim (back t k x p) [
-        | inl z ↦ (from_handle m (ap (λ (y : Entry). y.lender) (sym z.2) ∙ q)).1 ∙ ap (λ (y : Entry). y.object) (sym z.2)
+        | inl z ↦ (from_handle m (ap (λ (y : Entry). y.lender) (sym z.2) ∙ q)).same ∙ ap (λ (y : Entry). y.object) (sym z.2)
         | inr z ↦ b.same_object t k x m z q
       ]
 

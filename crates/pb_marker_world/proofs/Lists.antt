@@ -118,13 +118,18 @@ list_any-filter f g r h (x ∷ xs) =
     step false false r any rest h e = e
 
 -- an element that passes stands somewhere
-pub list_any_find : {A : Type 0} (f : A → Bool) (xs : List A) → list_any f xs ≡ true
-    → (k : ℕ) × (x : A) × (slice_get xs k ≡ Some x) × (f x ≡ true)
+pub record PassesAt {A : Type 0} (f : A → Bool) (xs : List A) : Type 0 where
+  pub at : ℕ
+  pub item : A
+  pub there : slice_get xs at ≡ Some item
+  pub passes : f item ≡ true
+
+pub list_any_find : {A : Type 0} (f : A → Bool) (xs : List A) → list_any f xs ≡ true → PassesAt f xs
 list_any_find f [] p = absurd (false≢true p)
 list_any_find f (x ∷ xs) p =
     elim (or_cases (f x) (list_any f xs) p) [
-      | inl q ↦ (zero, x, refl, q)
-      | inr q ↦ let u = list_any_find f xs q in (suc u.0, u.1, u.2, u.3)
+      | inl q ↦ record { at = zero; item = x; there = refl; passes = q }
+      | inr q ↦ let u = list_any_find f xs q in record { at = suc u.at; item = u.item; there = u.there; passes = u.passes }
     ]
 
 or_swap : (a b : Bool) → (a || b) ≡ (b || a)

@@ -21,7 +21,7 @@ not_shown : (w : World) (s n : ℕ) (e : Entry) → IsSteady w → entry_at w s 
 not_shown w s n e b p q r =
     let u = b.sound.S5 (own_marker s n e) r in
     both_ways (may_show_marker e.stage) q
-    (ap (λ (x : Entry). may_show_marker x.stage) (sym (same_entry w s n s n u.0 e u.1 refl refl p)) ∙ u.3)
+    (ap (λ (x : Entry). may_show_marker x.stage) (sym (same_entry w s n s n u.entry e u.stands refl refl p)) ∙ u.shows)
 
 module _ (w : World) (s n : ℕ) (e : Entry) (b : IsSteady w) (p : entry_at w s n ≡ Some e) where
   pub put_object_steady : e.stage ≡ Intended → e.lender ≡ None
@@ -55,7 +55,7 @@ module _ (w : World) (s n : ℕ) (e : Entry) (b : IsSteady w) (p : entry_at w s 
       let f = at_stage e Held in
       let names = with_marker w.names (own_marker s n e) in
       let v = gone_on w s n f names in
-      let fresh = b.sound.S8 s n e p (b.put_own s n e p st).0 (ap is_beginning st) in
+      let fresh = b.sound.S8 s n e p (b.put_own s n e p st).object (ap is_beginning st) in
       moved_steady w v s n e f
       (record {
         move = move_of w s n e f names p;
@@ -74,9 +74,9 @@ module _ (w : World) (s n : ℕ) (e : Entry) (b : IsSteady w) (p : entry_at w s 
         held = λ q. (
           fresh.present ∙ ap is_put st,
           λ d.
-              let z = fresh.alone d.0 d.1 d.2 d.3 d.4 in
-              let same : d.2 ≡ e = same_entry w d.0 d.1 s n d.2 e d.3 z.0 z.1 p in
-              let clash : Counted ≡ Put = sym d.5 ∙ (ap (λ (x : Entry). x.stage) same ∙ st) in
+              let z = fresh.alone d.store d.number d.entry d.stands d.same in
+              let same : d.entry ≡ e = same_entry w d.store d.number s n d.entry e d.stands z.0 z.1 p in
+              let clash : Counted ≡ Put = sym d.counted ∙ (ap (λ (x : Entry). x.stage) same ∙ st) in
               absurd (cc),
         );
         counted = λ q. absurd (cc);
@@ -117,9 +117,16 @@ module _ (w : World) (s n : ℕ) (e : Entry) (b : IsSteady w) (p : entry_at w s 
       })
       b
 
-  -- the lender's marker was found, or the entry is loose
+  -- the lender's marker was found
+  record IsFoundThere (next : Stage) : Type 0 where
+    now : next ≡ Held
+    marker : Marker
+    lent : e.lender ≡ Some marker
+    present : w.names.markers marker ≡ true
+
+  -- or the entry is loose
   abbrev Settles : Stage → Type 0
-  Settles next = ((next ≡ Held) × (m : Marker) × (e.lender ≡ Some m) × (w.names.markers m ≡ true)) ⊎ (next ≡ Loose)
+  Settles next = IsFoundThere next ⊎ (next ≡ Loose)
 
   settled_steady : (next : Stage) → Settles next → e.stage ≡ Marked → IsSteady (gone_on w s n (settled e next) w.names)
   settled_steady next how st =
@@ -133,32 +140,32 @@ module _ (w : World) (s n : ℕ) (e : Entry) (b : IsSteady w) (p : entry_at w s 
         lender = λ m q. absurd (cc);
         marker_put = λ m q. inl q;
         marker_kept = λ m q. inl q;
-        marker_own = λ q. elim how [ inl a ↦ ap may_show_marker a.0 | inr a ↦ ap may_show_marker a ];
+        marker_own = λ q. elim how [ inl a ↦ ap may_show_marker a.now | inr a ↦ ap may_show_marker a ];
         marker_shown = λ q. own;
         object_put = λ o q. inl q;
         object_kept = λ o q. inl q;
-        object_answered = λ q. inl (elim how [ inl a ↦ ap answers_for_object a.0 | inr a ↦ ap answers_for_object a ]);
+        object_answered = λ q. inl (elim how [ inl a ↦ ap answers_for_object a.now | inr a ↦ ap answers_for_object a ]);
         held = λ q. elim how [
           | inl a ↦
-              let safely = b.sound.S3 a.1 (inr (s, n, e, p, a.2)) in
-              let same : a.1.object ≡ e.object = b.same_object s n e a.1 p a.2 in (
-                ap w.names.objects (sym same) ∙ safely.stands a.3,
-                λ d. safely.safe a.3 (subst (λ x. IsDoomed w x) (sym same) d),
+              let safely = b.sound.S3 a.marker (inr (record { store = s; number = n; entry = e; stands = p; lent = a.lent })) in
+              let same : a.marker.object ≡ e.object = b.same_object s n e a.marker p a.lent in (
+                ap w.names.objects (sym same) ∙ safely.stands a.present,
+                λ d. safely.safe a.present (subst (λ x. IsDoomed w x) (sym same) d),
               )
           | inr a ↦ let clash : Held ≡ Loose = sym q ∙ a in absurd (cc)
         ];
         counted = λ q. elim how [
-          | inl a ↦ let clash : Held ≡ Counted = sym a.0 ∙ q in absurd (cc)
+          | inl a ↦ let clash : Held ≡ Counted = sym a.now ∙ q in absurd (cc)
           | inr a ↦ let clash : Loose ≡ Counted = sym a ∙ q in absurd (cc)
         ];
         on_its_way = λ q. ap is_on_its_way st;
         unprotected = λ q. absurd (cc);
         beginning = λ q. absurd (elim how [
-          | inl a ↦ both_ways (is_beginning next) (ap is_beginning a.0) q
+          | inl a ↦ both_ways (is_beginning next) (ap is_beginning a.now) q
           | inr a ↦ both_ways (is_beginning next) (ap is_beginning a) q
         ]);
         put_own = λ q. elim how [
-          | inl a ↦ let clash : Held ≡ Put = sym a.0 ∙ q in absurd (cc)
+          | inl a ↦ let clash : Held ≡ Put = sym a.now ∙ q in absurd (cc)
           | inr a ↦ let clash : Loose ≡ Put = sym a ∙ q in absurd (cc)
         ];
       })
@@ -168,7 +175,7 @@ module _ (w : World) (s n : ℕ) (e : Entry) (b : IsSteady w) (p : entry_at w s 
   settles None q = inr refl
   settles (Some m) q =
       elim (cases_Bool (w.names.markers m)) [
-        | inl y ↦ inl (cond-true (w.names.markers m) Held Loose y, m, q, y)
+        | inl y ↦ inl (record { now = cond-true (w.names.markers m) Held Loose y; marker = m; lent = q; present = y })
         | inr y ↦ inr (cond-false (w.names.markers m) Held Loose y)
       ]
 
@@ -230,7 +237,7 @@ module _ (w : World) (s n : ℕ) (e : Entry) (b : IsSteady w) (p : entry_at w s 
         object_kept = λ o q. inl q;
         object_answered = λ q. inl refl;
         held = λ q. absurd (cc);
-        counted = λ q m r. false_from_ne_true (w.names.markers m) (λ y. none (m, r, y));
+        counted = λ q m r. false_from_ne_true (w.names.markers m) (λ y. none (record { marker = m; same = r; present = y }));
         on_its_way = λ q. absurd (false≢true q);
         unprotected = λ q. absurd (cc);
         beginning = λ q. absurd (false≢true q);
@@ -243,7 +250,7 @@ module _ (w : World) (s n : ℕ) (e : Entry) (b : IsSteady w) (p : entry_at w s 
       let f = at_stage e Ended in
       let v = gone_on w s n f w.names in
       let move = move_of w s n e f w.names p in
-      let u = b.sound.S5 marked.0 marked.2 in
+      let u = b.sound.S5 marked.marker marked.present in
       moved_steady w v s n e f
       (record {
         move = move;
@@ -255,10 +262,17 @@ module _ (w : World) (s n : ℕ) (e : Entry) (b : IsSteady w) (p : entry_at w s 
         marker_shown = λ q. absurd (false≢true q);
         object_put = λ o q. inl q;
         object_kept = λ o q. inl q;
-        object_answered = λ q. inr (elim (move.forth marked.0.store marked.0.number u.0 u.1) [
+        object_answered = λ q. inr (elim (move.forth marked.marker.store marked.marker.number u.entry u.stands) [
           | inl z ↦ absurd (both_ways (may_show_marker e.stage) (ap may_show_marker st)
-              (ap (λ (x : Entry). may_show_marker x.stage) (sym z.2) ∙ u.3))
-          | inr z ↦ (marked.0.store, marked.0.number, u.0, z.1, u.2 ∙ marked.1, answers_if_shown u.0.stage u.3)
+              (ap (λ (x : Entry). may_show_marker x.stage) (sym z.2) ∙ u.shows))
+          | inr z ↦ record {
+            store = marked.marker.store;
+            number = marked.marker.number;
+            entry = u.entry;
+            stands = z.1;
+            same = u.same ∙ marked.same;
+            answers = answers_if_shown u.entry.stage u.shows;
+          }
         ]);
         held = λ q. absurd (cc);
         counted = λ q. absurd (cc);

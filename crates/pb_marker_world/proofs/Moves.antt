@@ -6,7 +6,7 @@ use Rattle.pb_names.specs.Identity.{Identity}
 use Rattle.pb_marker_world.specs.declared.stages.Stage.TheVariants.{Intended, Put, Held, Counted}
 use Rattle.pb_marker_world.specs.Machine.{Marker, Entry, Names, Lending, World, local_of, with_local, entry_at, identity, own_marker}
 use Rattle.pb_marker_world.specs.Steps.{IsOffered, moved}
-use Rattle.pb_marker_world.specs.Sound.{shows_marker, may_show_marker, is_on_its_way, is_beginning, is_put, answers_for_object, IsDoomed, IsLent, IsLentSafely, HoldsUnder, IsFresh, IsSteady}
+use Rattle.pb_marker_world.specs.Sound.{shows_marker, may_show_marker, is_on_its_way, is_beginning, is_put, answers_for_object, IsAccounted, IsAnswered, IsDoomed, IsLent, IsLentSafely, IsFresh, IsSteady, OwnMarkersStand, HeldObjectsStand, LentMarkersAreSafe, OpenHandlesLendHeld, MarkersAreAccounted, ObjectsAreAnswered, EntriesUseNumbers, BeginningsAreFresh, IntendedMakeTheirOwn, PutAreTheirOwn, LendersAreOfTheObject, HandlesAreOfThePast}
 use Rattle.pb_marker_world.proofs.Worlds.{place_cases, same_test, marker_from, entry_set, entry_kept, opening_kept, used_kept}
 
 -- in v the entry under n of s is f in place of e, and all other entries are as before
@@ -44,10 +44,6 @@ move_of w s n e f names p =
       lendings = refl;
     }
 
--- another entry answers for the object
-abbrev pub IsAnswered : World → Identity → Type 0
-IsAnswered v o = (s : ℕ) × (n : ℕ) × (e : Entry) × (entry_at v s n ≡ Some e) × (e.object ≡ o) × (answers_for_object e.stage ≡ true)
-
 -- what has to hold of such a move
 pub record MayMove (w v : World) (s n : ℕ) (e f : Entry) : Type 0 where
   pub move : Move w v s n e f
@@ -73,26 +69,17 @@ pub record MayMove (w v : World) (s n : ℕ) (e f : Entry) : Type 0 where
       → (f.stage ≡ Put) × (is_beginning e.stage ≡ true) × (v.names.objects e.object ≡ true)
   pub put_own : f.stage ≡ Put → (e.object ≡ identity s n) × (f.lender ≡ None)
 
-pub S7_objects_from : (v : World)
-    → ((o : Identity) → v.names.objects o ≡ true → IsAnswered v o)
-    → ((s n : ℕ) (e : Entry) → entry_at v s n ≡ Some e
-    → ((v.parts s).used n ≡ true) × ((v.parts e.object.creator).used e.object.number ≡ true))
-    → (o : Identity) → v.names.objects o ≡ true → (v.parts o.creator).used o.number ≡ true
+pub S7_objects_from : (v : World) → ObjectsAreAnswered v → EntriesUseNumbers v → (o : Identity) → v.names.objects o ≡ true → (v.parts o.creator).used o.number ≡ true
 S7_objects_from v a b o p =
     let u = a o p in
-    subst (λ (x : Identity). (v.parts x.creator).used x.number ≡ true) u.4 (b u.0 u.1 u.2 u.3).1
+    subst (λ (x : Identity). (v.parts x.creator).used x.number ≡ true) u.same (b u.store u.number u.entry u.stands).object
 
-pub S7_markers_from : (v : World)
-    → ((m : Marker) → v.names.markers m ≡ true
-    → (e : Entry) × (entry_at v m.store m.number ≡ Some e) × (e.object ≡ m.object) × (may_show_marker e.stage ≡ true))
-    → ((s n : ℕ) (e : Entry) → entry_at v s n ≡ Some e
-    → ((v.parts s).used n ≡ true) × ((v.parts e.object.creator).used e.object.number ≡ true))
-    → (m : Marker) → v.names.markers m ≡ true
+pub S7_markers_from : (v : World) → MarkersAreAccounted v → EntriesUseNumbers v → (m : Marker) → v.names.markers m ≡ true
     → ((v.parts m.store).used m.number ≡ true) × ((v.parts m.object.creator).used m.object.number ≡ true)
 S7_markers_from v a b m p =
     let u = a m p in
-    let r = b m.store m.number u.0 u.1 in
-    (r.0, subst (λ (x : Identity). (v.parts x.creator).used x.number ≡ true) u.2 r.1)
+    let r = b m.store m.number u.entry u.stands in
+    (r.own, subst (λ (x : Identity). (v.parts x.creator).used x.number ≡ true) u.same r.object)
 
 module _ (w v : World) (s n : ℕ) (e f : Entry) (c : MayMove w v s n e f) (b : IsSteady w) where
   own_here : (t k : ℕ) (x : Entry) → t ≡ s → k ≡ n → x ≡ f → own_marker t k x ≡ own_marker s n e
@@ -106,21 +93,37 @@ module _ (w v : World) (s n : ℕ) (e f : Entry) (c : MayMove w v s n e f) (b : 
   lent_back m p =
       elim p [
         | inl o ↦ inl (offered_back m o)
-        | inr d ↦ elim (c.move.back d.0 d.1 d.2 d.3) [
-          | inl r ↦ inr (s, n, e, c.move.found, c.lender m (ap (λ (y : Entry). y.lender) (sym r.2) ∙ d.4))
-          | inr r ↦ inr (d.0, d.1, d.2, r.1, d.4)
+        | inr d ↦ elim (c.move.back d.store d.number d.entry d.stands) [
+          | inl r ↦ inr (record {
+            store = s;
+            number = n;
+            entry = e;
+            stands = c.move.found;
+            lent = c.lender m (ap (λ (y : Entry). y.lender) (sym r.2) ∙ d.lent);
+          })
+          | inr r ↦ inr (record { store = d.store; number = d.number; entry = d.entry; stands = r.1; lent = d.lent })
         ]
       ]
 
   doomed_back : (o : Identity) → IsDoomed v o → IsDoomed w o ⊎ ((f.stage ≡ Counted) × (o ≡ e.object))
   doomed_back o d =
-      elim (c.move.back d.0 d.1 d.2 d.3) [
-        | inl r ↦ inr (ap (λ (y : Entry). y.stage) (sym r.2) ∙ d.5, sym d.4 ∙ (ap (λ (y : Entry). y.object) r.2 ∙ c.object))
-        | inr r ↦ inl (d.0, d.1, d.2, r.1, d.4, d.5)
+      elim (c.move.back d.store d.number d.entry d.stands) [
+        | inl r ↦ inr (ap (λ (y : Entry). y.stage) (sym r.2) ∙ d.counted, sym d.same ∙ (ap (λ (y : Entry). y.object) r.2 ∙ c.object))
+        | inr r ↦ inl (record {
+          store = d.store;
+          number = d.number;
+          entry = d.entry;
+          stands = r.1;
+          same = d.same;
+          counted = d.counted;
+        })
       ]
 
-  moved_S1 : (t k : ℕ) (x : Entry) → entry_at v t k ≡ Some x → shows_marker x.stage ≡ true
-      → v.names.markers (own_marker t k x) ≡ true
+  -- the entry that goes on is Counted, so its object is doomed
+  doomed_here : (o : Identity) → o ≡ e.object → e.stage ≡ Counted → IsDoomed w o
+  doomed_here o p q = record { store = s; number = n; entry = e; stands = c.move.found; same = sym p; counted = q }
+
+  moved_S1 : OwnMarkersStand v
   moved_S1 t k x p q =
       elim (c.move.back t k x p) [
         | inl r ↦ ap v.names.markers (own_here t k x r.0 r.1 r.2)
@@ -131,32 +134,33 @@ module _ (w v : World) (s n : ℕ) (e f : Entry) (c : MayMove w v s n e f) (b : 
         ]
       ]
 
-  moved_S2 : (t k : ℕ) (x : Entry) → entry_at v t k ≡ Some x → x.stage ≡ Held
-      → (v.names.objects x.object ≡ true) × (IsDoomed v x.object → ⊥)
+  moved_S2 : HeldObjectsStand v
   moved_S2 t k x p q =
       elim (c.move.back t k x p) [
         | inl r ↦
             let same : x.object ≡ e.object = ap (λ (y : Entry). y.object) r.2 ∙ c.object in
             let held : f.stage ≡ Held = ap (λ (y : Entry). y.stage) (sym r.2) ∙ q in
-            let u = c.held held in (
-              ap v.names.objects same ∙ u.0,
-              λ d. elim (doomed_back x.object d) [
+            let u = c.held held in
+            record {
+              present = ap v.names.objects same ∙ u.0;
+              spared = λ d. elim (doomed_back x.object d) [
                 | inl y ↦ u.1 (subst (λ z. IsDoomed w z) same y)
                 | inr y ↦ let clash : Held ≡ Counted = sym held ∙ y.0 in absurd (cc)
-              ],
-            )
+              ];
+            }
         | inr r ↦
-            let u = b.sound.S2 t k x r.1 q in (
-              elim (c.object_kept x.object u.0) [
+            let u = b.sound.S2 t k x r.1 q in
+            record {
+              present = elim (c.object_kept x.object u.present) [
                 | inl y ↦ y
-                | inr y ↦ absurd (u.1 (s, n, e, c.move.found, sym y.0, y.1))
-              ],
-              λ d. elim (doomed_back x.object d) [
-                | inl y ↦ u.1 y
+                | inr y ↦ absurd (u.spared (doomed_here x.object y.0 y.1))
+              ];
+              spared = λ d. elim (doomed_back x.object d) [
+                | inl y ↦ u.spared y
                 | inr y ↦ both_ways (w.names.markers (own_marker t k x)) (c.counted y.0 (own_marker t k x) y.1)
                     (b.sound.S1 t k x r.1 (ap shows_marker q))
-              ],
-            )
+              ];
+            }
       ]
 
   still_marked : (m : Marker) → IsLentSafely w m → v.names.markers m ≡ true → w.names.markers m ≡ true
@@ -169,7 +173,7 @@ module _ (w v : World) (s n : ℕ) (e f : Entry) (c : MayMove w v s n e f) (b : 
             y.1)
       ]
 
-  moved_S3 : (m : Marker) → IsLent v m → IsLentSafely v m
+  moved_S3 : LentMarkersAreSafe v
   moved_S3 m l =
       let g = b.sound.S3 m (lent_back m l) in
       record {
@@ -188,7 +192,7 @@ module _ (w v : World) (s n : ℕ) (e f : Entry) (c : MayMove w v s n e f) (b : 
             let before = still_marked m g p in
             elim (c.object_kept m.object (g.stands before)) [
               | inl y ↦ y
-              | inr y ↦ absurd (g.safe before (s, n, e, c.move.found, sym y.0, y.1))
+              | inr y ↦ absurd (g.safe before (doomed_here m.object y.0 y.1))
             ];
         safe = λ p d.
             let before = still_marked m g p in
@@ -198,48 +202,47 @@ module _ (w v : World) (s n : ℕ) (e f : Entry) (c : MayMove w v s n e f) (b : 
             ];
       }
 
-  moved_S4 : (h : ℕ) (g : Lending) (k : ℕ) (m : Marker) → slice_get v.lendings h ≡ Some g → g.is_open ≡ true
-      → g.opening ≡ (v.parts g.store).opening → slice_get g.markers k ≡ Some m → HoldsUnder v g.store m
+  moved_S4 : OpenHandlesLendHeld v
   moved_S4 h g k m p o q r =
       let given : slice_get w.lendings h ≡ Some g = ap (λ x. slice_get x h) (sym c.move.lendings) ∙ p in
       let now : g.opening ≡ (w.parts g.store).opening = q ∙ c.move.opening g.store in
       let u = b.sound.S4 h g k m given o now r in
-      elim (c.move.forth g.store m.number u.0 u.1) [
-        | inl z ↦ elim (c.unprotected (ap (λ (x : Entry). x.stage) (sym z.2) ∙ u.2)) [
-          | inl y ↦ (
-            f,
-            ap (λ x. entry_at v x m.number) z.0 ∙ (ap (λ x. entry_at v s x) z.1 ∙ c.move.made),
-            y,
-            marker_from m f.object g.store m.number
-                (ap (λ (x : Marker). x.object) u.3 ∙ (ap (λ (x : Entry). x.object) z.2 ∙ sym c.object))
-                (ap (λ (x : Marker). x.store) u.3) refl,
-          )
+      elim (c.move.forth g.store m.number u.entry u.stands) [
+        | inl z ↦ elim (c.unprotected (ap (λ (x : Entry). x.stage) (sym z.2) ∙ u.held)) [
+          | inl y ↦ record {
+            entry = f;
+            stands = ap (λ x. entry_at v x m.number) z.0 ∙ (ap (λ x. entry_at v s x) z.1 ∙ c.move.made);
+            held = y;
+            own = marker_from m f.object g.store m.number
+                (ap (λ (x : Marker). x.object) u.own ∙ (ap (λ (x : Entry). x.object) z.2 ∙ sym c.object))
+                (ap (λ (x : Marker). x.store) u.own) refl;
+          }
           | inr y ↦ absurd (y h g k given o z.0 (now ∙ ap (λ x. (w.parts x).opening) z.0)
               (r ∙ ap Some (marker_from m e.object s n
-              (ap (λ (x : Marker). x.object) u.3 ∙ ap (λ (x : Entry). x.object) z.2)
-              (ap (λ (x : Marker). x.store) u.3 ∙ z.0) z.1)))
+              (ap (λ (x : Marker). x.object) u.own ∙ ap (λ (x : Entry). x.object) z.2)
+              (ap (λ (x : Marker). x.store) u.own ∙ z.0) z.1)))
         ]
-        | inr z ↦ (u.0, z.1, u.2, u.3)
+        | inr z ↦ record { entry = u.entry; stands = z.1; held = u.held; own = u.own }
       ]
 
   shown_here : (m : Marker) → m.store ≡ s → m.number ≡ n → m.object ≡ e.object → v.names.markers m ≡ true
-      → (x : Entry) × (entry_at v m.store m.number ≡ Some x) × (x.object ≡ m.object) × (may_show_marker x.stage ≡ true)
-  shown_here m p q r y = (
-    f,
-    ap (λ x. entry_at v x m.number) p ∙ (ap (λ x. entry_at v s x) q ∙ c.move.made),
-    c.object ∙ sym r,
-    c.marker_own (ap v.names.markers (sym (marker_from m e.object s n r p q)) ∙ y),
-  )
+      → IsAccounted v m
+  shown_here m p q r y =
+      record {
+        entry = f;
+        stands = ap (λ x. entry_at v x m.number) p ∙ (ap (λ x. entry_at v s x) q ∙ c.move.made);
+        same = c.object ∙ sym r;
+        shows = c.marker_own (ap v.names.markers (sym (marker_from m e.object s n r p q)) ∙ y);
+      }
 
-  moved_S5 : (m : Marker) → v.names.markers m ≡ true
-      → (x : Entry) × (entry_at v m.store m.number ≡ Some x) × (x.object ≡ m.object) × (may_show_marker x.stage ≡ true)
+  moved_S5 : MarkersAreAccounted v
   moved_S5 m p =
       elim (c.marker_put m p) [
         | inl y ↦
             let u = b.sound.S5 m y in
-            elim (c.move.forth m.store m.number u.0 u.1) [
-              | inl z ↦ shown_here m z.0 z.1 (sym u.2 ∙ ap (λ (x : Entry). x.object) z.2) p
-              | inr z ↦ (u.0, z.1, u.2, u.3)
+            elim (c.move.forth m.store m.number u.entry u.stands) [
+              | inl z ↦ shown_here m z.0 z.1 (sym u.same ∙ ap (λ (x : Entry). x.object) z.2) p
+              | inr z ↦ record { entry = u.entry; stands = z.1; same = u.same; shows = u.shows }
             ]
         | inr y ↦ shown_here m (ap (λ (x : Marker). x.store) y.0) (ap (λ (x : Marker). x.number) y.0)
             (ap (λ (x : Marker). x.object) y.0) p
@@ -248,35 +251,49 @@ module _ (w v : World) (s n : ℕ) (e f : Entry) (c : MayMove w v s n e f) (b : 
   answered_here : (o : Identity) → o ≡ e.object → v.names.objects o ≡ true → IsAnswered v o
   answered_here o q p =
       elim (c.object_answered (ap v.names.objects (sym q) ∙ p)) [
-        | inl a ↦ (s, n, f, c.move.made, c.object ∙ sym q, a)
-        | inr a ↦ (a.0, a.1, a.2, a.3, a.4 ∙ sym q, a.5)
+        | inl a ↦ record { store = s; number = n; entry = f; stands = c.move.made; same = c.object ∙ sym q; answers = a }
+        | inr a ↦ record {
+          store = a.store;
+          number = a.number;
+          entry = a.entry;
+          stands = a.stands;
+          same = a.same ∙ sym q;
+          answers = a.answers;
+        }
       ]
 
-  moved_S6 : (o : Identity) → v.names.objects o ≡ true → IsAnswered v o
+  moved_S6 : ObjectsAreAnswered v
   moved_S6 o p =
       elim (c.object_put o p) [
         | inl y ↦
             let u = b.sound.S6 o y in
-            elim (c.move.forth u.0 u.1 u.2 u.3) [
-              | inl z ↦ answered_here o (sym u.4 ∙ ap (λ (x : Entry). x.object) z.2) p
-              | inr z ↦ (u.0, u.1, u.2, z.1, u.4, u.5)
+            elim (c.move.forth u.store u.number u.entry u.stands) [
+              | inl z ↦ answered_here o (sym u.same ∙ ap (λ (x : Entry). x.object) z.2) p
+              | inr z ↦ record {
+                store = u.store;
+                number = u.number;
+                entry = u.entry;
+                stands = z.1;
+                same = u.same;
+                answers = u.answers;
+              }
             ]
         | inr y ↦ answered_here o y p
       ]
 
-  moved_S7 : (t k : ℕ) (x : Entry) → entry_at v t k ≡ Some x
-      → ((v.parts t).used k ≡ true) × ((v.parts x.object.creator).used x.object.number ≡ true)
+  moved_S7 : EntriesUseNumbers v
   moved_S7 t k x p =
       elim (c.move.back t k x p) [
         | inl r ↦
-            let u = b.sound.S7_entries s n e c.move.found in (
-              c.move.used t k ∙ (ap (λ a. (w.parts a).used k) r.0 ∙ (ap (λ a. (w.parts s).used a) r.1 ∙ u.0)),
-              c.move.used x.object.creator x.object.number
-                  ∙ (ap (λ (a : Identity). (w.parts a.creator).used a.number) (ap (λ (y : Entry). y.object) r.2 ∙ c.object) ∙ u.1),
-            )
+            let u = b.sound.S7_entries s n e c.move.found in
+            record {
+              own = c.move.used t k ∙ (ap (λ a. (w.parts a).used k) r.0 ∙ (ap (λ a. (w.parts s).used a) r.1 ∙ u.own));
+              object = c.move.used x.object.creator x.object.number
+                  ∙ (ap (λ (a : Identity). (w.parts a.creator).used a.number) (ap (λ (y : Entry). y.object) r.2 ∙ c.object) ∙ u.object);
+            }
         | inr r ↦
             let u = b.sound.S7_entries t k x r.1 in
-            (c.move.used t k ∙ u.0, c.move.used x.object.creator x.object.number ∙ u.1)
+            record { own = c.move.used t k ∙ u.own; object = c.move.used x.object.creator x.object.number ∙ u.object }
       ]
 
   own_number : (t k : ℕ) (x : Entry) → t ≡ s → k ≡ n → x ≡ f → x.object ≡ identity t k → e.object ≡ identity s n
@@ -325,16 +342,14 @@ module _ (w v : World) (s n : ℕ) (e f : Entry) (c : MayMove w v s n e f) (b : 
             ∙ fresh.present;
       }
 
-  moved_S8 : (t k : ℕ) (x : Entry) → entry_at v t k ≡ Some x → x.object ≡ identity t k → is_beginning x.stage ≡ true
-      → IsFresh v t k x
+  moved_S8 : BeginningsAreFresh v
   moved_S8 t k x p o r =
       elim (c.move.back t k x p) [
         | inl z ↦ fresh_here t k x z.0 z.1 z.2 o r
         | inr z ↦ fresh_there t k x z.0 (b.sound.S8 t k x z.1 o r)
       ]
 
-  moved_makes_own : (t k : ℕ) (x : Entry) → entry_at v t k ≡ Some x → x.stage ≡ Intended → x.lender ≡ None
-      → x.object ≡ identity t k
+  moved_makes_own : IntendedMakeTheirOwn v
   moved_makes_own t k x p q r =
       elim (c.move.back t k x p) [
         | inl z ↦
@@ -344,20 +359,20 @@ module _ (w v : World) (s n : ℕ) (e f : Entry) (c : MayMove w v s n e f) (b : 
         | inr z ↦ b.makes_own t k x z.1 q r
       ]
 
-  moved_put_own : (t k : ℕ) (x : Entry) → entry_at v t k ≡ Some x → x.stage ≡ Put
-      → (x.object ≡ identity t k) × (x.lender ≡ None)
+  moved_put_own : PutAreTheirOwn v
   moved_put_own t k x p q =
       elim (c.move.back t k x p) [
         | inl z ↦
-            let a = c.put_own (ap (λ (y : Entry). y.stage) (sym z.2) ∙ q) in (
-              ap (λ (y : Entry). y.object) z.2
-                  ∙ (c.object ∙ (a.0 ∙ (λ i. record { creator = sym z.0 i; number = sym z.1 i }))),
-              ap (λ (y : Entry). y.lender) z.2 ∙ a.1,
-            )
+            let a = c.put_own (ap (λ (y : Entry). y.stage) (sym z.2) ∙ q) in
+            record {
+              object = ap (λ (y : Entry). y.object) z.2
+                  ∙ (c.object ∙ (a.0 ∙ (λ i. record { creator = sym z.0 i; number = sym z.1 i })));
+              no_lender = ap (λ (y : Entry). y.lender) z.2 ∙ a.1;
+            }
         | inr z ↦ b.put_own t k x z.1 q
       ]
 
-  moved_same_object : (t k : ℕ) (x : Entry) (m : Marker) → entry_at v t k ≡ Some x → x.lender ≡ Some m → m.object ≡ x.object
+  moved_same_object : LendersAreOfTheObject v
   moved_same_object t k x m p q =
       elim (c.move.back t k x p) [
         | inl z ↦ b.same_object s n e m c.move.found (c.lender m (ap (λ (y : Entry). y.lender) (sym z.2) ∙ q))
@@ -365,7 +380,7 @@ module _ (w v : World) (s n : ℕ) (e f : Entry) (c : MayMove w v s n e f) (b : 
         | inr z ↦ b.same_object t k x m z.1 q
       ]
 
-  moved_past : (h : ℕ) (g : Lending) → slice_get v.lendings h ≡ Some g → g.opening ≤ (v.parts g.store).opening
+  moved_past : HandlesAreOfThePast v
   moved_past h g p =
       subst (λ x. g.opening ≤ x) (sym (c.move.opening g.store))
       (b.past h g (ap (λ x. slice_get x h) (sym c.move.lendings) ∙ p))

@@ -10,9 +10,10 @@ use Rattle.pb_marker_world.specs.declared.scans.Found.{Found}
 use Rattle.pb_marker_world.specs.Machine.{Marker, own_marker}
 use Rattle.pb_marker_world.specs.Steps.{protects}
 use Rattle.pb_marker_world.specs.Steps.Step.{PutsObject, PutsMarker, Checks, DeletesMarker, Counts, DeletesObject, Drops}
+use Rattle.pb_marker_world.specs.Sound.{is_settled_stage}
 use Rattle.pb_marker_world.specs.Book.{Book, opening_in}
 use Rattle.pb_marker_world.specs.Events.{placed_in, MayHappen}
-use Rattle.pb_marker_world.specs.Found.{IsFoundAt, stage_marked, is_settled_stage}
+use Rattle.pb_marker_world.specs.Found.{IsFoundAt, stage_marked}
 use Rattle.pb_marker_world.proofs.Asked.{refused_none, refused, needs_put_object, needs_put_marker, needs_check, needs_delete_marker, needs_count, needs_delete_object, needs_drop}
 
 no_lender : (o : Option Marker) → is_some o ≡ false → o ≡ None
@@ -111,6 +112,6 @@ module _ (b : Book) (at : ℕ) (f : Found) (found : IsFoundAt b.places at f) whe
 pub crash_spent : (b : Book) (s : ℕ) (at : List ℕ) (n : ℕ) → n ≡ opening_in b.openings s → n ≡ 2 ^ 64 - 1
     → MayHappen b (Crash s at) → ⊥
 crash_spent b s at n p q m =
-    let room : opening_in b.openings s < 2 ^ 64 - 1 = m.5 in
+    let room : opening_in b.openings s < 2 ^ 64 - 1 = m.room in
     let now : opening_in b.openings s ≡ 2 ^ 64 - 1 = sym p ∙ q in
     omega arith

@@ -19,7 +19,8 @@ use Rattle.pb_marker_world.proofs.Drops.{drop_steady}
 use Rattle.pb_marker_world.proofs.Crashes.{crash_steady}
 
 pub covered_itself : (w : World) (h : ℕ) (g : Lending) → slice_get w.lendings h ≡ Some g → IsCovered w g ⊎ LendsHeld w g
-covered_itself w h g p = inl (h, g, p, refl, refl, refl, λ q. q)
+covered_itself w h g p =
+    inl (record { handle = h; old = g; there = p; store = refl; opening = refl; markers = refl; is_open = λ q. q })
 
 module _ (w : World) (s : ℕ) (b : IsSteady w) where
   spend_steady : (n : ℕ) → IsSteady (with_local w s (with_part (local_of w s) (with_used (w.parts s) n)))
@@ -68,12 +69,13 @@ module _ (w : World) (s : ℕ) (b : IsSteady w) where
   held_under None n m p q r = absurd (false≢true q)
   held_under (Some e) n m p q r =
       let same : m ≡ own_marker s n e = sym (same_some (own_marker s n e) m r) in
-      let number = ap (λ (x : Marker). x.number) same in (
-        e,
-        ap (λ x. entry_at w s x) number ∙ p,
-        held e.stage q,
-        same ∙ (λ i. record { object = e.object; store = s; number = sym number i }),
-      )
+      let number = ap (λ (x : Marker). x.number) same in
+      record {
+        entry = e;
+        stands = ap (λ x. entry_at w s x) number ∙ p;
+        held = held e.stage q;
+        own = same ∙ (λ i. record { object = e.object; store = s; number = sym number i });
+      }
     where
       held : (stage : Stage) → is_held_stage stage ≡ true → stage ≡ Held
       held Held p = refl
@@ -89,12 +91,14 @@ module _ (w : World) (s : ℕ) (b : IsSteady w) where
       → IsSteady (with_local w s (with_lendings (local_of w s) (w.lendings ++ handle_over s (w.parts s) numbers ∷ [])))
   lend_steady numbers all =
       let new = handle_over s (w.parts s) numbers in
-      let lends : LendsHeld w new = (
-        refl,
-        λ k m p.
+      let lends : LendsHeld w new =
+      record {
+        opening = refl;
+        each = λ k m p.
             let u = slice_get_filter_map (marker_at s (w.parts s)) numbers k m p in
-            held_under (entry_at w s u.1) u.1 m refl (list_all_at (is_held (w.parts s)) numbers u.0 u.1 all u.2) u.3,
-      ) in
+            held_under (entry_at w s u.item) u.item m refl
+            (list_all_at (is_held (w.parts s)) numbers u.at u.item all u.there) u.gives;
+      } in
       handles_steady (w.lendings ++ new ∷ []) (λ h g p.
       elim (slice_get_push w.lendings new h g p) [
         | inl q ↦ covered_itself w h g q
@@ -107,56 +111,56 @@ module _ (w : World) (s : ℕ) (b : IsSteady w) where
       handles_steady (slice_set w.lendings h (dropped g)) (λ k x q.
       elim (slice_get_set w.lendings h (dropped g) k x q) [
         | inl r ↦ covered_itself w k x r
-        | inr r ↦ inl (
-          h,
-          g,
-          p,
-          ap (λ (y : Lending). y.store) r,
-          ap (λ (y : Lending). y.opening) r,
-          ap (λ (y : Lending). y.markers) r,
-          λ y. absurd (false≢true (ap (λ (z : Lending). z.is_open) (sym r) ∙ y)),
-        )
+        | inr r ↦ inl (record {
+          handle = h;
+          old = g;
+          there = p;
+          store = ap (λ (y : Lending). y.store) r;
+          opening = ap (λ (y : Lending). y.opening) r;
+          markers = ap (λ (y : Lending). y.markers) r;
+          is_open = λ y. absurd (false≢true (ap (λ (z : Lending). z.is_open) (sym r) ∙ y));
+        })
       ])
 
   -- a step of the store keeps the world steady
   pub step_steady : (step : Step) (after : Local) → Happens s (local_of w s) step after → IsSteady (with_local w s after)
-  step_steady (Spends n) after h = subst (λ l. IsSteady (with_local w s l)) (sym h.1) (spend_steady n)
+  step_steady (Spends n) after h = subst (λ l. IsSteady (with_local w s l)) (sym h.left) (spend_steady n)
   step_steady (Intends n o lender) after h =
-      subst (λ l. IsSteady (with_local w s l)) (sym h.2) (intend_steady w s n o lender b h.0 h.1)
+      subst (λ l. IsSteady (with_local w s l)) (sym h.left) (intend_steady w s n o lender b h.unused h.may)
   step_steady (PutsObject n) after h =
-      subst (λ l. IsSteady (with_local w s l)) (sym h.3) (put_object_steady w s n h.0 b h.1.0 h.1.1 h.2)
+      subst (λ l. IsSteady (with_local w s l)) (sym h.left) (put_object_steady w s n h.entry b h.at.stands h.at.come h.no_lender)
   step_steady (PutsMarker n) after h =
-      elim h.1 [
-        | inl q ↦ subst (λ l. IsSteady (with_local w s l)) (sym q.1) (put_marker_steady w s n h.0 b q.0.0 q.0.1)
-        | inr q ↦ subst (λ l. IsSteady (with_local w s l)) (sym q.3) (put_own_marker_steady w s n h.0 b q.0.0 q.0.1)
+      elim h.how [
+        | inl q ↦ subst (λ l. IsSteady (with_local w s l)) (sym q.left) (put_marker_steady w s n h.entry b q.at.stands q.at.come)
+        | inr q ↦ subst (λ l. IsSteady (with_local w s l)) (sym q.left) (put_own_marker_steady w s n h.entry b q.at.stands q.at.come)
       ]
   step_steady (Checks n) after h =
-      subst (λ l. IsSteady (with_local w s l)) (sym h.2) (check_steady w s n h.0 b h.1.0 h.1.1)
+      subst (λ l. IsSteady (with_local w s l)) (sym h.left) (check_steady w s n h.entry b h.at.stands h.at.come)
   step_steady (DeletesMarker n) after h =
-      subst (λ l. IsSteady (with_local w s l)) (sym h.3)
-      (delete_marker_steady w s n h.0 b (elim h.1 [ inl q ↦ q.0 | inr q ↦ q.0 ]) h.2)
+      subst (λ l. IsSteady (with_local w s l)) (sym h.left)
+      (delete_marker_steady w s n h.entry b (elim h.at [ inl q ↦ q.stands | inr q ↦ q.stands ]) h.unprotected)
   step_steady (Counts n) after h =
-      elim h.2 [
-        | inl q ↦ subst (λ l. IsSteady (with_local w s l)) (sym q.1) (count_none_steady w s n h.0 b h.1.0 h.1.1 q.0)
-        | inr q ↦ subst (λ l. IsSteady (with_local w s l)) (sym q.1) (count_some_steady w s n h.0 b h.1.0 h.1.1 q.0)
+      elim h.how [
+        | inl q ↦ subst (λ l. IsSteady (with_local w s l)) (sym q.left) (count_none_steady w s n h.entry b h.at.stands h.at.come q.none)
+        | inr q ↦ subst (λ l. IsSteady (with_local w s l)) (sym q.left) (count_some_steady w s n h.entry b h.at.stands h.at.come q.some)
       ]
   step_steady (DeletesObject n) after h =
-      subst (λ l. IsSteady (with_local w s l)) (sym h.2) (delete_object_steady w s n h.0 b h.1.0 h.1.1)
+      subst (λ l. IsSteady (with_local w s l)) (sym h.left) (delete_object_steady w s n h.entry b h.at.stands h.at.come)
   step_steady (Drops n) after h =
-      subst (λ l. IsSteady (with_local w s l)) (sym h.2) (drop_steady w s n h.0 b h.1.0 h.1.1)
-  step_steady (Lends numbers) after h = subst (λ l. IsSteady (with_local w s l)) (sym h.1) (lend_steady numbers h.0)
+      subst (λ l. IsSteady (with_local w s l)) (sym h.left) (drop_steady w s n h.entry b h.at.stands h.at.come)
+  step_steady (Lends numbers) after h = subst (λ l. IsSteady (with_local w s l)) (sym h.left) (lend_steady numbers h.held)
   step_steady (DropsHandle k) after h =
-      subst (λ l. IsSteady (with_local w s l)) (sym h.3) (drop_handle_steady k h.0 h.1)
+      subst (λ l. IsSteady (with_local w s l)) (sym h.left) (drop_handle_steady k h.given h.there)
   step_steady (Crashes kept) after h =
-      subst (λ l. IsSteady (with_local w s l)) (sym h.1) (crash_steady w s kept b)
+      subst (λ l. IsSteady (with_local w s l)) (sym h.left) (crash_steady w s kept b)
 
 pub goes_steady : (w : World) (s : ℕ) (step : Step) (v : World) → IsSteady w → Goes w s step v → IsSteady v
-goes_steady w s step v b h = subst (λ x. IsSteady x) (sym h.2) (step_steady w s b step h.0 h.1)
+goes_steady w s step v b h = subst (λ x. IsSteady x) (sym h.left) (step_steady w s b step h.after h.happens)
 
 pub runs_steady : (steps : List (ℕ × Step)) (w v : World) → IsSteady w → Runs w steps v → IsSteady v
 runs_steady [] w v b h = subst (λ x. IsSteady x) (sym h) b
 runs_steady (step ∷ steps) w v b h =
-    runs_steady steps h.0 v (goes_steady w step.0 step.1 h.0 b h.1) h.2
+    runs_steady steps h.between v (goes_steady w step.0 step.1 h.between b h.first) h.rest
 
 pub empty_steady : IsSteady empty_world
 empty_steady =
@@ -165,8 +169,8 @@ empty_steady =
         S1 = λ s n e p. absurd (cc);
         S2 = λ s n e p. absurd (cc);
         S3 = λ m l. absurd (elim l [
-          | inl d ↦ let given : None ≡ Some d.1 = d.3 in absurd (cc)
-          | inr d ↦ let given : None ≡ Some d.2 = d.3 in absurd (cc)
+          | inl d ↦ let given : None ≡ Some d.given = d.there in absurd (cc)
+          | inr d ↦ let given : None ≡ Some d.entry = d.stands in absurd (cc)
         ]);
         S4 = λ h g k m p. absurd (cc);
         S5 = λ m p. absurd (false≢true p);
@@ -187,14 +191,15 @@ local_back w s l = λ i. record { part = part_here w s l s refl i; names = l.nam
 
 pub goes_reads : (w x v : World) (s : ℕ) (step : Step) → local_of x s ≡ local_of w s → Goes w s step v
     → Goes x s step (with_local x s (local_of v s))
-goes_reads w x v s step same h = (
-  h.0,
-  subst (λ l. Happens s l step h.0) (sym same) h.1,
-  ap (with_local x s) (ap (λ y. local_of y s) h.2 ∙ local_back w s h.0),
-)
+goes_reads w x v s step same h =
+    record {
+      after = h.after;
+      happens = subst (λ l. Happens s l step h.after) (sym same) h.happens;
+      left = ap (with_local x s) (ap (λ y. local_of y s) h.left ∙ local_back w s h.after);
+    }
 
 pub goes_changes : (w v : World) (s t : ℕ) (step : Step) → Goes w s step v → (t ≡ s → ⊥) → v.parts t ≡ w.parts t
-goes_changes w v s t step h apart = ap (λ (y : World). y.parts t) h.2 ∙ part_there w s h.0 t apart
+goes_changes w v s t step h apart = ap (λ (y : World). y.parts t) h.left ∙ part_there w s h.after t apart
 
 with_again : (w : World) (s : ℕ) (l m : Local) → with_local (with_local w s l) s m ≡ with_local w s m
 with_again w s l m =
@@ -219,9 +224,9 @@ pub reaches_steady : (steps : List Step) (w : World) (s : ℕ) (after : Local) �
 reaches_steady [] w s after b h =
     subst (λ x. IsSteady x) (sym (ap (with_local w s) h ∙ with_same w s)) b
 reaches_steady (step ∷ steps) w s after b h =
-    subst (λ x. IsSteady x) (with_again w s h.0 after)
-    (reaches_steady steps (with_local w s h.0) s after (step_steady w s b step h.0 h.1)
-    (subst (λ l. Reaches s l steps after) (sym (local_back w s h.0)) h.2))
+    subst (λ x. IsSteady x) (with_again w s h.between after)
+    (reaches_steady steps (with_local w s h.between) s after (step_steady w s b step h.between h.first)
+    (subst (λ l. Reaches s l steps after) (sym (local_back w s h.between)) h.rest))
 
 pub fewer_handles : (w : World) (lendings : List Lending) → IsSteady w
     → ((h : ℕ) (g : Lending) → slice_get lendings h ≡ Some g → (j : ℕ) × (slice_get w.lendings j ≡ Some g))

@@ -1,6 +1,6 @@
 -- The events of a whole store on the lists: that each has happened, and that it may not.
 use Rattle.std.proofs.Common.{◌≡◌, ℕ, ◌+◌, true, false, inl, inr, Option, Some, None, List, [], ◌∷◌, ◌++◌, length, refl, sym, ap, ◌∙◌}
-use Rattle.std.specs.Prelude.{◌-◌, slice_get, ◌==◌, if◌then◌else◌}
+use Rattle.std.specs.Prelude.{slice_get, ◌==◌, if◌then◌else◌}
 use Rattle.std.specs.List.{list_all, filter_map}
 use Rattle.std.specs.Option.{option_map, option_and_then}
 use Rattle.std.proofs.lemmas.Bool.{both_ways, cases_Bool, cond-true, cond-false}
@@ -27,7 +27,11 @@ spend_done b s n unused =
       store = s;
       step = Spends n;
       asked = refl;
-      went = (with_part (local_of (world_of b) s) (with_used (part_of b s) n), (unused, refl), world-spent b s n);
+      went = record {
+        after = with_part (local_of (world_of b) s) (with_used (part_of b s) n);
+        happens = record { unused = unused; left = refl };
+        left = world-spent b s n;
+      };
       room = tt;
       answered = refl;
       same_places = append-none (places_of b.places);
@@ -35,7 +39,7 @@ spend_done b s n unused =
 
 pub spend_refused : (b : Book) (s n : ℕ) → is_used_in b.places b.spent s n ≡ true → MayHappen b (Spend s n) → ⊥
 spend_refused b s n used m =
-    both_ways (is_used_in b.places b.spent s n) (at_asked b s (Spends n) m.0 m.1 m.3 m.2 m.4).0 used
+    both_ways (is_used_in b.places b.spent s n) (at_asked b s (Spends n) m.store m.step m.after m.asked m.happens).unused used
 
 pub intend_own_done : (b : Book) (s n : ℕ) (o : Identity) → is_used_in b.places b.spent s n ≡ false → o ≡ identity s n
     → IsDone b (Intend s n o None) (NewEntry (length b.places))
@@ -46,11 +50,11 @@ intend_own_done b s n o unused own =
       store = s;
       step = Intends n o None;
       asked = refl;
-      went = (
-        with_part (local_of (world_of b) s) (with_entry (with_used (part_of b s) n) n (Some e)),
-        (unused, own, refl),
-        world-entered b s n e unused,
-      );
+      went = record {
+        after = with_part (local_of (world_of b) s) (with_entry (with_used (part_of b s) n) n (Some e));
+        happens = record { unused = unused; may = own; left = refl };
+        left = world-entered b s n e unused;
+      };
       room = tt;
       answered = refl;
       same_places = places_of-push b.places (record { store = s; number = n; entry = Some e });
@@ -59,10 +63,10 @@ intend_own_done b s n o unused own =
 pub intend_own_used : (b : Book) (s n : ℕ) (o : Identity) → is_used_in b.places b.spent s n ≡ true
     → MayHappen b (Intend s n o None) → ⊥
 intend_own_used b s n o used m =
-    both_ways (is_used_in b.places b.spent s n) (at_asked b s (Intends n o None) m.0 m.1 m.3 m.2 m.4).0 used
+    both_ways (is_used_in b.places b.spent s n) (at_asked b s (Intends n o None) m.store m.step m.after m.asked m.happens).unused used
 
 pub intend_own_refused : (b : Book) (s n : ℕ) (o : Identity) → (o ≡ identity s n → ⊥) → MayHappen b (Intend s n o None) → ⊥
-intend_own_refused b s n o other m = other (at_asked b s (Intends n o None) m.0 m.1 m.3 m.2 m.4).1
+intend_own_refused b s n o other m = other (at_asked b s (Intends n o None) m.store m.step m.after m.asked m.happens).may
 
 -- a marker that a handle lends is offered
 offered_if : (given : List Lending) (l : Lender) (m : Marker) → lent_in given l ≡ Some m → IsOffered given m
@@ -71,7 +75,7 @@ offered_if given l m q = go (slice_get given l.handle) refl q
     go : (o : Option Lending) → slice_get given l.handle ≡ o → option_and_then (λ (g : Lending). slice_get g.markers l.place) o ≡ Some m
         → IsOffered given m
     go None e h = absurd (cc)
-    go (Some g) e h = (l.handle, g, l.place, e, h)
+    go (Some g) e h = record { handle = l.handle; given = g; place = l.place; there = e; lends = h }
 
 pub intend_lent_done : (b : Book) (s n : ℕ) (o : Identity) (l : Lender) (x : Marker) → is_used_in b.places b.spent s n ≡ false
     → lent_in b.given l ≡ Some x → x.object ≡ o
@@ -83,42 +87,48 @@ intend_lent_done b s n o l x unused lent same =
       store = s;
       step = Intends n o (Some x);
       asked = ap (λ y. option_map {U = ℕ × Step} (λ (m : Marker). (s, Intends n o (Some m))) y) lent;
-      went = (
-        with_part (local_of (world_of b) s) (with_entry (with_used (part_of b s) n) n (Some e)),
-        (unused, (offered_if b.given l x lent, same), refl),
-        world-entered b s n e unused,
-      );
+      went = record {
+        after = with_part (local_of (world_of b) s) (with_entry (with_used (part_of b s) n) n (Some e));
+        happens = record { unused = unused; may = record { offered = offered_if b.given l x lent; same = same }; left = refl };
+        left = world-entered b s n e unused;
+      };
       room = tt;
       answered = refl;
       same_places = places_of-push b.places (record { store = s; number = n; entry = Some e });
     }
 
 -- the lent marker that an event asks for
-asked_lent : (b : Book) (s n : ℕ) (o : Identity) (l : Lender) → MayHappen b (Intend s n o (Some l))
-    → (x : Marker) × (lent_in b.given l ≡ Some x) × (is_used_in b.places b.spent s n ≡ false) × (x.object ≡ o)
-asked_lent b s n o l m = go (lent_in b.given l) refl m.2
+record AskedLent (b : Book) (s n : ℕ) (o : Identity) (l : Lender) : Type 0 where
+  marker : Marker
+  lent : lent_in b.given l ≡ Some marker
+  unused : is_used_in b.places b.spent s n ≡ false
+  same : marker.object ≡ o
+
+asked_lent : (b : Book) (s n : ℕ) (o : Identity) (l : Lender) → MayHappen b (Intend s n o (Some l)) → AskedLent b s n o l
+asked_lent b s n o l m = go (lent_in b.given l) refl m.asked
   where
     go : (y : Option Marker) → lent_in b.given l ≡ y
-        → option_map {U = ℕ × Step} (λ (x : Marker). (s, Intends n o (Some x))) y ≡ Some (m.0, m.1)
-        → (x : Marker) × (lent_in b.given l ≡ Some x) × (is_used_in b.places b.spent s n ≡ false) × (x.object ≡ o)
+        → option_map {U = ℕ × Step} (λ (x : Marker). (s, Intends n o (Some x))) y ≡ Some (m.store, m.step) → AskedLent b s n o l
     go None e h = absurd (cc)
-    go (Some x) e h = let u = at_asked b s (Intends n o (Some x)) m.0 m.1 m.3 h m.4 in (x, e, u.0, u.1.1)
+    go (Some x) e h =
+        let u = at_asked b s (Intends n o (Some x)) m.store m.step m.after h m.happens in
+        record { marker = x; lent = e; unused = u.unused; same = u.may.same }
 
 pub intend_lent_used : (b : Book) (s n : ℕ) (o : Identity) (l : Lender) → is_used_in b.places b.spent s n ≡ true
     → MayHappen b (Intend s n o (Some l)) → ⊥
-intend_lent_used b s n o l used m = both_ways (is_used_in b.places b.spent s n) (asked_lent b s n o l m).2 used
+intend_lent_used b s n o l used m = both_ways (is_used_in b.places b.spent s n) (asked_lent b s n o l m).unused used
 
 pub intend_lent_none : (b : Book) (s n : ℕ) (o : Identity) (l : Lender) → lent_in b.given l ≡ None
     → MayHappen b (Intend s n o (Some l)) → ⊥
 intend_lent_none b s n o l none m =
     let u = asked_lent b s n o l m in
-    let clash : None ≡ Some u.0 = sym none ∙ u.1 in absurd (cc)
+    let clash : None ≡ Some u.marker = sym none ∙ u.lent in absurd (cc)
 
 pub intend_lent_refused : (b : Book) (s n : ℕ) (o : Identity) (l : Lender) (x : Marker) → lent_in b.given l ≡ Some x
     → (x.object ≡ o → ⊥) → MayHappen b (Intend s n o (Some l)) → ⊥
 intend_lent_refused b s n o l x lent other m =
     let u = asked_lent b s n o l m in
-    other (ap (λ (y : Marker). y.object) (same_some x u.0 (sym lent ∙ u.1)) ∙ u.3)
+    other (ap (λ (y : Marker). y.object) (same_some x u.marker (sym lent ∙ u.lent)) ∙ u.same)
 
 pub lend_done : (b : Book) (s : ℕ) (at : List ℕ) (markers : List Marker)
     → list_all (is_of b.places s) at ≡ true
@@ -133,28 +143,31 @@ lend_done b s at markers own held q =
       store = s;
       step = Lends numbers;
       asked = cond-true (list_all (is_of b.places s) at) (Some (s, Lends numbers)) None own;
-      went = (
-        with_lendings (local_of (world_of b) s) (b.given ++ handle ∷ []),
-        (
-          held,
-          ap (λ x. with_lendings (local_of (world_of b) s)
-              (b.given ++ record { store = s; opening = opening_in b.openings s; markers = x; is_open = true } ∷ [])) q,
-        ),
-        world-lending b s (b.given ++ handle ∷ []),
-      );
+      went = record {
+        after = with_lendings (local_of (world_of b) s) (b.given ++ handle ∷ []);
+        happens = record {
+          held = held;
+          left = ap (λ x. with_lendings (local_of (world_of b) s)
+              (b.given ++ record { store = s; opening = opening_in b.openings s; markers = x; is_open = true } ∷ [])) q;
+        };
+        left = world-lending b s (b.given ++ handle ∷ []);
+      };
       room = tt;
       answered = refl;
       same_places = append-none (places_of b.places);
     }
 
 -- what an event over places asks for
+record AskedOver (b : Book) (s : ℕ) (at : List ℕ) (k : List ℕ → Step) (store : ℕ) (step : Step) : Type 0 where
+  own : list_all (is_of b.places s) at ≡ true
+  asked : ◌≡◌ {A = Option (ℕ × Step)} (Some (s, k (filter_map (number_at b.places) at))) (Some (store, step))
+
 asked_over : (b : Book) (s : ℕ) (at : List ℕ) (k : List ℕ → Step) (store : ℕ) (step : Step) → step_over b s at k ≡ Some (store, step)
-    → (list_all (is_of b.places s) at ≡ true)
-    × (◌≡◌ {A = Option (ℕ × Step)} (Some (s, k (filter_map (number_at b.places) at))) (Some (store, step)))
+    → AskedOver b s at k store step
 asked_over b s at k store step q =
     let numbers = filter_map (number_at b.places) at in
     elim (cases_Bool (list_all (is_of b.places s) at)) [
-      | inl y ↦ (y, sym (cond-true (list_all (is_of b.places s) at) (Some (s, k numbers)) None y) ∙ q)
+      | inl y ↦ record { own = y; asked = sym (cond-true (list_all (is_of b.places s) at) (Some (s, k numbers)) None y) ∙ q }
       | inr y ↦
           let clash : ◌≡◌ {A = Option (ℕ × Step)} None (Some (store, step)) = sym (cond-false (list_all (is_of b.places s) at) (Some (s, k numbers)) None y) ∙ q in
           absurd (cc)
@@ -162,27 +175,32 @@ asked_over b s at k store step q =
 
 pub lend_others : (b : Book) (s : ℕ) (at : List ℕ) → list_all (is_of b.places s) at ≡ false → MayHappen b (Lend s at) → ⊥
 lend_others b s at other m =
-    both_ways (list_all (is_of b.places s) at) other (asked_over b s at Lends m.0 m.1 m.2).0
+    both_ways (list_all (is_of b.places s) at) other (asked_over b s at Lends m.store m.step m.asked).own
 
 pub lend_refused : (b : Book) (s : ℕ) (at : List ℕ)
     → list_all (is_held (part_of b s)) (filter_map (number_at b.places) at) ≡ false → MayHappen b (Lend s at) → ⊥
 lend_refused b s at lacks m =
     let numbers = filter_map (number_at b.places) at in
-    let u = at_asked b s (Lends numbers) m.0 m.1 m.3 (asked_over b s at Lends m.0 m.1 m.2).1 m.4 in
-    both_ways (list_all (is_held (part_of b s)) numbers) lacks u.0
+    let u = at_asked b s (Lends numbers) m.store m.step m.after (asked_over b s at Lends m.store m.step m.asked).asked m.happens in
+    both_ways (list_all (is_held (part_of b s)) numbers) lacks u.held
 
 pub drop_handle_done : (b : Book) (h : ℕ) (given : List Lending) → IsClosed b.given h true given
     → IsDone b (DropHandle h) Done (book_lending b given)
 drop_handle_done b h given c =
     record {
-      store = c.0.store;
+      store = c.given.store;
       step = DropsHandle h;
-      asked = ap (λ o. option_map {U = ℕ × Step} (λ (g : Lending). (g.store, DropsHandle h)) o) c.1;
-      went = (
-        with_lendings (local_of (world_of b) c.0.store) given,
-        (c.0, c.1, c.2, ap (with_lendings (local_of (world_of b) c.0.store)) c.3),
-        world-lending b c.0.store given,
-      );
+      asked = ap (λ o. option_map {U = ℕ × Step} (λ (g : Lending). (g.store, DropsHandle h)) o) c.there;
+      went = record {
+        after = with_lendings (local_of (world_of b) c.given.store) given;
+        happens = record {
+          given = c.given;
+          there = c.there;
+          was_open = c.was_open;
+          left = ap (with_lendings (local_of (world_of b) c.given.store)) c.left;
+        };
+        left = world-lending b c.given.store given;
+      };
       room = tt;
       answered = refl;
       same_places = append-none (places_of b.places);
@@ -190,14 +208,14 @@ drop_handle_done b h given c =
 
 pub drop_handle_refused : (b : Book) (h : ℕ) (given : List Lending) → IsClosed b.given h false given
     → MayHappen b (DropHandle h) → ⊥
-drop_handle_refused b h given c m = go (slice_get b.given h) refl m.2
+drop_handle_refused b h given c m = go (slice_get b.given h) refl m.asked
   where
     go : (o : Option Lending) → slice_get b.given h ≡ o
-        → option_map {U = ℕ × Step} (λ (g : Lending). (g.store, DropsHandle h)) o ≡ Some (m.0, m.1) → ⊥
+        → option_map {U = ℕ × Step} (λ (g : Lending). (g.store, DropsHandle h)) o ≡ Some (m.store, m.step) → ⊥
     go None e q = absurd (cc)
     go (Some g) e q =
-        let u = at_asked b g.store (DropsHandle h) m.0 m.1 m.3 q m.4 in
-        both_ways u.0.is_open (c.1 u.0 u.1) u.2
+        let u = at_asked b g.store (DropsHandle h) m.store m.step m.after q m.happens in
+        both_ways u.given.is_open (c.shut u.given u.there) u.was_open
 
 pub crash_done : (b : Book) (s : ℕ) (at : List ℕ) (openings : List Opening)
     → list_all (is_of b.places s) at ≡ true
@@ -211,11 +229,11 @@ crash_done b s at openings own held room h =
       store = s;
       step = Crashes numbers;
       asked = cond-true (list_all (is_of b.places s) at) (Some (s, Crashes numbers)) None own;
-      went = (
-        with_part (local_of (world_of b) s) (crashed (part_of b s) numbers),
-        (held, refl),
-        world-crashed b s numbers openings h,
-      );
+      went = record {
+        after = with_part (local_of (world_of b) s) (crashed (part_of b s) numbers);
+        happens = record { held = held; left = refl };
+        left = world-crashed b s numbers openings h;
+      };
       room = room;
       answered = refl;
       same_places = places_of-loosened s numbers b.places ∙ append-none (places_of b.places);
@@ -223,11 +241,11 @@ crash_done b s at openings own held room h =
 
 pub crash_others : (b : Book) (s : ℕ) (at : List ℕ) → list_all (is_of b.places s) at ≡ false → MayHappen b (Crash s at) → ⊥
 crash_others b s at other m =
-    both_ways (list_all (is_of b.places s) at) other (asked_over b s at Crashes m.0 m.1 m.2).0
+    both_ways (list_all (is_of b.places s) at) other (asked_over b s at Crashes m.store m.step m.asked).own
 
 pub crash_refused : (b : Book) (s : ℕ) (at : List ℕ)
     → list_all (is_held (part_of b s)) (filter_map (number_at b.places) at) ≡ false → MayHappen b (Crash s at) → ⊥
 crash_refused b s at lacks m =
     let numbers = filter_map (number_at b.places) at in
-    let u = at_asked b s (Crashes numbers) m.0 m.1 m.3 (asked_over b s at Crashes m.0 m.1 m.2).1 m.4 in
-    both_ways (list_all (is_held (part_of b s)) numbers) lacks u.0
+    let u = at_asked b s (Crashes numbers) m.store m.step m.after (asked_over b s at Crashes m.store m.step m.asked).asked m.happens in
+    both_ways (list_all (is_held (part_of b s)) numbers) lacks u.held

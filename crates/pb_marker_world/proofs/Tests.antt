@@ -88,11 +88,19 @@ slice_get_cons_option (Some z) ys zero y p = inl p
 slice_get_cons_option (Some z) ys (suc k) y p = inr (k, p)
 
 -- an element of the mapped part of a list stems from one of the list
+pub record ComesFrom {A B : Type 0} (f : A → Option B) (xs : List A) (y : B) : Type 0 where
+  pub at : ℕ
+  pub item : A
+  pub there : slice_get xs at ≡ Some item
+  pub gives : f item ≡ Some y
+
 pub slice_get_filter_map : {A B : Type 0} (f : A → Option B) (xs : List A) (k : ℕ) (y : B)
-    → slice_get (filter_map f xs) k ≡ Some y → (j : ℕ) × (x : A) × (slice_get xs j ≡ Some x) × (f x ≡ Some y)
+    → slice_get (filter_map f xs) k ≡ Some y → ComesFrom f xs y
 slice_get_filter_map f [] k y p = absurd (cc)
 slice_get_filter_map f (x ∷ xs) k y p =
     elim (slice_get_cons_option (f x) (filter_map f xs) k y p) [
-      | inl q ↦ (zero, x, refl, q)
-      | inr q ↦ let u = slice_get_filter_map f xs q.0 y q.1 in (suc u.0, u.1, u.2, u.3)
+      | inl q ↦ record { at = zero; item = x; there = refl; gives = q }
+      | inr q ↦
+          let u = slice_get_filter_map f xs q.0 y q.1 in
+          record { at = suc u.at; item = u.item; there = u.there; gives = u.gives }
     ]

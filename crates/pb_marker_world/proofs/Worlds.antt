@@ -3,7 +3,7 @@ use Rattle.std.proofs.Common.{◌≡◌, ℕ, Bool, true, false, ◌⊎◌, inl,
 use Rattle.std.specs.Prelude.{if◌then◌else◌, ◌==◌}
 use Rattle.std.proofs.lemmas.Bool.{cases_eq, cond-true, cond-false, eq-eqb, ne_eqb}
 use Rattle.pb_names.specs.Identity.{Identity}
-use Rattle.pb_marker_world.specs.Machine.{Marker, Entry, Part, Local, World, with_local, entry_at}
+use Rattle.pb_marker_world.specs.Machine.{Marker, Entry, Part, Names, Local, World, with_local, entry_at}
 
 pub place_cases : (t k s n : ℕ) → ((t ≡ s) × (k ≡ n)) ⊎ (t ≡ s → k ≡ n → ⊥)
 place_cases t k s n =
@@ -21,6 +21,10 @@ same_test false false f g = refl
 pub marker_from : (m : Marker) (o : Identity) (s n : ℕ) → m.object ≡ o → m.store ≡ s → m.number ≡ n
     → m ≡ record { object = o; store = s; number = n }
 marker_from m o s n p q r = λ i. record { object = p i; store = q i; number = r i }
+
+-- two tests of names are equal where they are at each thing
+pub names_path : (p q : Names) → ((o : Identity) → p.objects o ≡ q.objects o) → ((m : Marker) → p.markers m ≡ q.markers m) → p ≡ q
+names_path p q a b = λ i. record { objects = λ o. a o i; markers = λ m. b m i }
 
 pub part_here : (w : World) (s : ℕ) (l : Local) (t : ℕ) → t ≡ s → (with_local w s l).parts t ≡ l.part
 part_here w s l t q = cond-true (t == s) l.part (w.parts t) (eq-eqb t s q)

@@ -1,5 +1,5 @@
 -- What an event does to the lists, and what it answers.
-use Rattle.std.specs.Prelude.{◌≡◌, ℕ, ◌-◌, ◌<◌, ◌^◌, Bool, false, ◌==◌, Option, Some, None, Result, Ok, Err, List, [], ◌∷◌, ◌++◌, if◌then◌else◌, length, map, slice_get}
+use Rattle.std.specs.Prelude.{◌≡◌, ℕ, ◌-◌, ◌<◌, ◌^◌, Bool, true, false, ◌==◌, Option, Some, None, Result, Ok, Err, List, [], ◌∷◌, ◌++◌, if◌then◌else◌, length, map, slice_get}
 use Rattle.std.specs.List.{list_any, list_all, filter_map}
 use Rattle.std.specs.Option.{option_map, option_and_then}
 use Rattle.pb_marker_world.specs.declared.events.Event.{Event}
@@ -60,11 +60,18 @@ abbrev pub HasRoom : Book → Event → Type 0
 HasRoom b (Crash store kept) = opening_in b.openings store < 2 ^ 64 - 1
 HasRoom b _ = Unit {0}
 
+-- a step is wanted, and may happen
+pub record IsPossible (b : Book) (wanted : Option (ℕ × Step)) (Room : Type 0) : Type 0 where
+  pub store : ℕ
+  pub step : Step
+  pub asked : wanted ≡ Some (store, step)
+  pub after : Local
+  pub happens : Happens store (local_of (world_of b) store) step after
+  pub room : Room
+
 -- the event's condition holds
 abbrev pub MayHappen : Book → Event → Type 0
-MayHappen b event =
-    (store : ℕ) × (step : Step) × (step_of b event ≡ Some (store, step))
-    × (after : Local) × Happens store (local_of (world_of b) store) step after × HasRoom b event
+MayHappen b event = IsPossible b (step_of b event) (HasRoom b event)
 
 -- the entry at a place
 abbrev pub placed_in : List Place → ℕ → Option Entry
@@ -110,8 +117,28 @@ pub record IsDone (old : Book) (event : Event) (outcome : Outcome) (new : Book) 
   pub answered : outcome ≡ outcome_of old event
   pub same_places : places_of new.places ≡ places_of old.places ++ made_by event
 
+-- the event notes something more, so it may find no memory
+abbrev pub takes_memory : Event → Bool
+takes_memory (Spend store number) = true
+takes_memory (Intend store number object lender) = true
+takes_memory (PutObject at) = true
+takes_memory (PutMarker at) = true
+takes_memory (Lend store entries) = true
+takes_memory (Crash store kept) = true
+takes_memory _ = false
+
+-- the event may not happen now, and nothing has changed
+pub record IsRefused (old : Book) (event : Event) (new : Book) : Type 0 where
+  pub same : new ≡ old
+  pub never : MayHappen old event → ⊥
+
+-- there was no memory for it, and nothing has changed
+pub record IsShort (old : Book) (event : Event) (new : Book) : Type 0 where
+  pub same : new ≡ old
+  pub takes : takes_memory event ≡ true
+
 -- what comes of an event: it happens, or nothing changes
 abbrev pub Meets : Book → Event → Result Outcome WorldError → Book → Type 0
 Meets old event (Ok outcome) new = IsDone old event outcome new
-Meets old event (Err NotNow) new = (new ≡ old) × (MayHappen old event → ⊥)
-Meets old event (Err NoMemory) new = new ≡ old
+Meets old event (Err NotNow) new = IsRefused old event new
+Meets old event (Err NoMemory) new = IsShort old event new

@@ -3,16 +3,18 @@ use Rattle.std.specs.Prelude.{◌≡◌, ℕ, Bool, true, false, Option, Some, N
 use Rattle.pb_marker_world.specs.declared.records.Place.{Place}
 use Rattle.pb_marker_world.specs.declared.scans.Found.{Found}
 use Rattle.pb_marker_world.specs.declared.stages.Stage.{Stage}
-use Rattle.pb_marker_world.specs.declared.stages.Stage.TheVariants.{Intended, Put, Marked, Held, Loose}
+use Rattle.pb_marker_world.specs.declared.stages.Stage.TheVariants.{Intended, Put, Marked, Held}
 use Rattle.pb_marker_world.specs.Machine.{Marker, Entry, Lending}
 use Rattle.pb_marker_world.specs.Steps.{dropped}
 use Rattle.pb_marker_world.specs.Book.{entry_in}
 
 -- the place is there, and the store has this entry under the number
-abbrev pub IsFoundAt : List Place → ℕ → Found → Type 0
-IsFoundAt places at f =
-    (p : Place) × (slice_get places at ≡ Some p) × (p.store ≡ f.store) × (p.number ≡ f.number)
-    × (entry_in places f.store f.number ≡ Some f.entry)
+pub record IsFoundAt (places : List Place) (at : ℕ) (f : Found) : Type 0 where
+  pub place : Place
+  pub there : slice_get places at ≡ Some place
+  pub store : place.store ≡ f.store
+  pub number : place.number ≡ f.number
+  pub stands : entry_in places f.store f.number ≡ Some f.entry
 
 -- what an entry at this stage and with this lender becomes as its marker is put
 abbrev pub marked_from : Stage → Option Marker → Option Stage
@@ -24,13 +26,18 @@ marked_from _ lender = None
 abbrev pub stage_marked : Entry → Option Stage
 stage_marked e = marked_from e.stage e.lender
 
--- the handle was open and is dropped, or it wasn't there or wasn't open and nothing has changed
-abbrev pub IsClosed : List Lending → ℕ → Bool → List Lending → Type 0
-IsClosed old h true new = (g : Lending) × (slice_get old h ≡ Some g) × (g.is_open ≡ true) × (new ≡ slice_set old h (dropped g))
-IsClosed old h false new = (new ≡ old) × ((g : Lending) → slice_get old h ≡ Some g → g.is_open ≡ false)
+-- the handle was open, and is dropped
+pub record WasClosed (old : List Lending) (h : ℕ) (new : List Lending) : Type 0 where
+  pub given : Lending
+  pub there : slice_get old h ≡ Some given
+  pub was_open : given.is_open ≡ true
+  pub left : new ≡ slice_set old h (dropped given)
 
--- Held or Loose
-abbrev pub is_settled_stage : Stage → Bool
-is_settled_stage Held = true
-is_settled_stage Loose = true
-is_settled_stage _ = false
+-- it wasn't there or wasn't open, and nothing has changed
+pub record IsNotOpen (old : List Lending) (h : ℕ) (new : List Lending) : Type 0 where
+  pub left : new ≡ old
+  pub shut : (g : Lending) → slice_get old h ≡ Some g → g.is_open ≡ false
+
+abbrev pub IsClosed : List Lending → ℕ → Bool → List Lending → Type 0
+IsClosed old h true new = WasClosed old h new
+IsClosed old h false new = IsNotOpen old h new

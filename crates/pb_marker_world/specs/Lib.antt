@@ -4,3 +4,6 @@ pub mod Sound
 pub mod Book
 pub mod Events
 pub mod Found
+pub mod Bucket
+pub mod Calls
+pub mod Spending

@@ -1,7 +1,7 @@
 ghost use Rattle.std.specs.Prelude.{◌≡◌};
 ghost use Rattle.pb_marker_world.specs.declared.events.WorldError.TheVariants.{NoMemory};
 
-use crate::place_list::Places;
+use pb_keys::List;
 use pb_names::ObjectId;
 use std::alloc::{AllocError, AllocFailed};
 use std::error::Error;
@@ -47,14 +47,14 @@ pub enum Event {
     /// A store lends the objects of these entries of its own.
     Lend {
         store: u64,
-        entries: Places,
+        entries: List<usize>,
     },
     /// A handle is given back.
     DropHandle(usize),
     /// A store is closed, is stopped or fails. It keeps these entries of its own, and all others are Loose.
     Crash {
         store: u64,
-        kept: Places,
+        kept: List<usize>,
     },
 }
 

@@ -4,8 +4,8 @@
 mod edits;
 mod events;
 pub mod laws;
+mod ledger;
 mod marker_world;
-mod place_list;
 mod records;
 mod scans;
 mod stages;
@@ -13,5 +13,4 @@ mod stages_of;
 
 pub use events::{Event, Lender, Outcome, WorldError};
 pub use marker_world::World;
-pub use place_list::Places;
 pub use stages::Stage;

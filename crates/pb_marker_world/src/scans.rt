@@ -173,7 +173,7 @@ pub fn lent(given: &[Handle], lender: &Lender) -> Option<MarkerId>
 }
 
 /// Whether the lender's marker is among these.
-pub fn stands(markers: &[MarkerId], lender: &Option<MarkerId>) -> bool
+pub fn has_lender_marker(markers: &[MarkerId], lender: &Option<MarkerId>) -> bool
     ensures { result ≡ lender_in markers.now lender.now }
 {
     match lender {

@@ -2,7 +2,8 @@ ghost use Rattle.std.specs.Prelude.{◌≡◌, true, false, if◌then◌else◌,
 ghost use Rattle.pb_marker_world.specs.declared.stages.Stage.TheVariants.{Intended, Held, Loose, Counted, Ended};
 ghost use Rattle.pb_marker_world.specs.Machine.{identity, own_marker, same_identity};
 ghost use Rattle.pb_marker_world.specs.Steps.{at_stage, settled};
-ghost use Rattle.pb_marker_world.specs.Found.{is_settled_stage, stage_marked};
+ghost use Rattle.pb_marker_world.specs.Sound.{is_settled_stage};
+ghost use Rattle.pb_marker_world.specs.Found.{stage_marked};
 
 use crate::records::{MarkerId, StoreEntry};
 use crate::scans::Found;

@@ -2,20 +2,20 @@ ghost use Rattle.std.specs.Prelude.{◌<◌};
 
 use super::World;
 use crate::events::{Event, Lender, Outcome, WorldError};
-use crate::place_list::Places;
 use crate::records::{Handle, MarkerId, Place, StoreEntry};
 use crate::scans::{entry_of, is_marked, is_marker, is_object, is_used, opening_of};
 use crate::stages::Stage;
 use crate::stages_of::{is_at, lender_of, object_of};
+use pb_keys::List;
 use pb_names::ObjectId;
 use std::alloc::{AllocError, Global};
 use std::process::Abort;
 use std::test::Fail;
 
-fn places(alloc: Global, one: usize) -> Result<Places, AllocError> {
+fn places(alloc: Global, one: usize) -> Result<List<usize>, AllocError> {
     let mut list = Vec::new(alloc);
     list.push(one)?;
-    Ok(Places::from_vec(list))
+    Ok(List::from_vec(list))
 }
 
 fn does(
@@ -211,16 +211,16 @@ fn entry_fault(world: &World, place: &Place, entry: &StoreEntry) -> u8 {
         store: place.store,
         number: place.number,
     };
-    let places = world.places.as_slice();
+    let places = world.ledger.places.as_slice();
     let held = is_at(entry, Stage::Held);
-    let present = is_object(world.objects.as_slice(), &object);
-    if (held || is_at(entry, Stage::Marked)) && !is_marker(world.markers.as_slice(), &own) {
+    let present = is_object(world.ledger.objects.as_slice(), &object);
+    if (held || is_at(entry, Stage::Marked)) && !is_marker(world.ledger.markers.as_slice(), &own) {
         return 1;
     }
     if held && (!present || is_doomed(places, &object)) {
         return 2;
     }
-    let spent = world.spent.as_slice();
+    let spent = world.ledger.spent.as_slice();
     if !is_used(places, spent, place.store, place.number)
         || !is_used(places, spent, object.creator, object.number)
     {
@@ -228,9 +228,10 @@ fn entry_fault(world: &World, place: &Place, entry: &StoreEntry) -> u8 {
     }
     let begins = is_at(entry, Stage::Intended) || is_at(entry, Stage::Put);
     if begins && object.creator == place.store && object.number == place.number {
-        let alone = count_of(places, &object) == 1 && !is_marked(world.markers.as_slice(), &object);
+        let alone = count_of(places, &object) == 1
+            && !is_marked(world.ledger.markers.as_slice(), &object);
         if !alone
-            || is_offered(world.given.as_slice(), &object)
+            || is_offered(world.ledger.given.as_slice(), &object)
             || present != is_at(entry, Stage::Put)
         {
             return 8;
@@ -243,8 +244,8 @@ fn entry_fault(world: &World, place: &Place, entry: &StoreEntry) -> u8 {
 }
 
 fn lent_fault(world: &World, marker: &MarkerId) -> u8 {
-    let places = world.places.as_slice();
-    let spent = world.spent.as_slice();
+    let places = world.ledger.places.as_slice();
+    let spent = world.ledger.spent.as_slice();
     let object = marker.object;
     if !is_used(places, spent, marker.store, marker.number)
         || !is_used(places, spent, object.creator, object.number)
@@ -259,8 +260,10 @@ fn lent_fault(world: &World, marker: &MarkerId) -> u8 {
             return 3;
         }
     }
-    let stands = is_marker(world.markers.as_slice(), marker);
-    if stands && (!is_object(world.objects.as_slice(), &object) || is_doomed(places, &object)) {
+    let stands = is_marker(world.ledger.markers.as_slice(), marker);
+    if stands
+        && (!is_object(world.ledger.objects.as_slice(), &object) || is_doomed(places, &object))
+    {
         return 3;
     }
     0
@@ -302,9 +305,9 @@ fn is_answered(places: &[Place], object: &ObjectId) -> bool {
 }
 
 fn handle_fault(world: &World, handle: &Handle) -> u8 {
-    let places = world.places.as_slice();
+    let places = world.ledger.places.as_slice();
     let open = handle.is_open
-        && handle.opening == opening_of(world.openings.as_slice(), handle.store);
+        && handle.opening == opening_of(world.ledger.openings.as_slice(), handle.store);
     for marker in handle.markers.as_slice() {
         let fault = lent_fault(world, marker);
         if fault != 0 {
@@ -318,7 +321,7 @@ fn handle_fault(world: &World, handle: &Handle) -> u8 {
 }
 
 fn first_fault(world: &World) -> u8 {
-    for place in world.places.as_slice() {
+    for place in world.ledger.places.as_slice() {
         if let Some(entry) = &place.entry {
             let fault = entry_fault(world, place, entry);
             if fault != 0 {
@@ -326,19 +329,19 @@ fn first_fault(world: &World) -> u8 {
             }
         }
     }
-    for handle in world.given.as_slice() {
+    for handle in world.ledger.given.as_slice() {
         let fault = handle_fault(world, handle);
         if fault != 0 {
             return fault;
         }
     }
-    for marker in world.markers.as_slice() {
-        if !is_shown(world.places.as_slice(), marker) {
+    for marker in world.ledger.markers.as_slice() {
+        if !is_shown(world.ledger.places.as_slice(), marker) {
             return 5;
         }
     }
-    for object in world.objects.as_slice() {
-        if !is_answered(world.places.as_slice(), object) {
+    for object in world.ledger.objects.as_slice() {
+        if !is_answered(world.ledger.places.as_slice(), object) {
             return 6;
         }
     }

@@ -1,7 +1,10 @@
-use Rattle.pb_marker_world.proofs.Answers.{new_steady}
+use Rattle.std.proofs.Common.{sym, subst}
+use Rattle.pb_marker_world.specs.Sound.{IsSteady}
+use Rattle.pb_marker_world.proofs.Steady.{empty_steady}
 use Rattle.pb_marker_world.proofs.marker_world.World.new.Goals as goal
 
+pub invariant_of-result : goal.invariant_of-result
+invariant_of-result c = subst (λ w. IsSteady w) (sym c.new.ensures.world) empty_steady
+
 pub returns-clause-steady : goal.returns-clause-steady
-returns-clause-steady c =
-    new_steady _ c.new.ensures.items c.new-2.ensures.items c.new-3.ensures.items c.new-4.ensures.items c.new-5.ensures.items
-    c.new-6.ensures.items
+returns-clause-steady c = subst (λ w. IsSteady w) (sym c.new.ensures.world) empty_steady

@@ -1,0 +1,4 @@
+pub mod Call
+pub mod Creating
+pub mod Attaching
+pub mod Releasing

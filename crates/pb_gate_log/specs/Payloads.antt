@@ -1,6 +1,7 @@
 -- The list of payloads that the bytes of a gate log stand for.
 use Rattle.std.specs.Prelude.{◌≡◌, ℕ, zero, suc, ◌+◌, ◌==◌, ◌&&◌, Bool, List, [], ◌∷◌, length, take, drop, slice_index, nat_le, if◌then◌else◌, Option, Some, None, IsSomeAnd}
 use Rattle.pb_bytes.specs.BigEndian.{number_of}
+use Rattle.pb_devices.specs.Contents.{Folder}
 
 -- the longest payload, in bytes
 abbrev pub max_payload : ℕ
@@ -36,3 +37,7 @@ HasList list file = IsSomeAnd file (λ bytes. payloads bytes ≡ list)
 abbrev pub payloads_in : Option (List ℕ) → List (List ℕ)
 payloads_in None = []
 payloads_in (Some bytes) = payloads bytes
+
+-- the file of this name is there, and its payloads are such
+abbrev pub HasPayloads : Folder → List ℕ → (List (List ℕ) → Type 0) → Type 0
+HasPayloads folder name AreSuch = IsSomeAnd (folder name) (λ bytes. AreSuch (payloads bytes))

@@ -1,0 +1,13 @@
+pub mod RowsCut
+pub mod SpansCut
+pub mod LayersCut
+pub mod Bounds
+pub mod PointsLaws
+pub mod CutSteps
+pub mod BoundsLaws
+pub mod OutputLaws
+pub mod ValueLaws
+pub mod TogetherLaws
+pub mod FilledOutputs
+pub mod FewOutputs
+pub mod FullOutputs

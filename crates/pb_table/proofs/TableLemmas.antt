@@ -6,10 +6,10 @@ use Rattle.std.proofs.lemmas.Bool.{eqb-true}
 use Rattle.std.proofs.lemmas.List.{append-nil}
 use Rattle.pb_keys.specs.Span.{KeySpan, IsSpan}
 use Rattle.pb_rows.specs.Layer.{KeyRow, KeyLayer, IsLayer, layer_of, IsFilled}
-use Rattle.pb_table.specs.Spelling.{counted, span_spelling, row_spelling, IsFormat, format_1, table_spelling}
+use Rattle.pb_table.specs.Spelling.{counted, span_spelling, row_spelling, table_spelling}
 use Rattle.pb_table.specs.Spells.{IsTableRow, IsTableLayer, Spells}
 use Rattle.pb_table.proofs.CountedLemmas.{one_counted}
-use Rattle.pb_table.proofs.FormatLemmas.{parts_1, table_spelling-1, table_spelling-of, rows_in_form, spelled_1}
+use Rattle.pb_table.proofs.FormatLemmas.{parts_1, table_spelling-1, rows_in_form, spelled_1}
 use Rattle.pb_table.proofs.SizeLemmas.{dels_fit, rows_fit}
 use Rattle.pb_table.proofs.ItemLemmas.{one_span, one_row}
 

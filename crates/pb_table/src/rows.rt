@@ -1,11 +1,11 @@
-ghost use Rattle.std.specs.Prelude.{ℕ, ◌≡◌, ◌<◌, ◌≤◌, ◌^◌, ◌++◌, List, Option, All, IfNone, IfSome, IfOk, OnOk, length};
+ghost use Rattle.std.specs.Prelude.{ℕ, ◌≡◌, ◌<◌, ◌^◌, ◌++◌, List, Option, All, IfNone, IfSome, IfOk, OnOk, length};
+ghost use Rattle.pb_keys.specs.Value.{IsValue};
 ghost use Rattle.pb_rows.specs.Layer.{KeyRow};
 ghost use Rattle.pb_table.specs.Spelling.{counted, value_spelling, row_spelling};
 ghost use Rattle.pb_table.specs.Spells.{IsTableRow};
 
-use super::fields::{split_field, split_varint};
-use pb_bytes::{put_field, put_varint};
-use pb_keys::{Bytes, Key, KeyError, MAX_VALUE};
+use pb_bytes::{put_field, put_varint, split_field, split_varint};
+use pb_keys::{Bytes, Key, MAX_VALUE};
 use pb_rows::Row;
 use std::alloc::{AllocError, Global};
 
@@ -70,10 +70,8 @@ fn read_row(alloc: Global, from: &[u8]) -> Result<Option<(Row, &[u8])>, AllocErr
     let Some((key, rest)) = split_field(from) else {
         return Ok(None);
     };
-    let key = match Key::new(alloc, key) {
-        Ok(key) => key,
-        Err(KeyError::BadKey) => return Ok(None),
-        Err(KeyError::NoMemory) => return Err(AllocError),
+    let Some(key) = Key::read(alloc, key)? else {
+        return Ok(None);
     };
     let Some((value, rest)) = read_value(alloc, rest)? else {
         return Ok(None);
@@ -83,9 +81,9 @@ fn read_row(alloc: Global, from: &[u8]) -> Result<Option<(Row, &[u8])>, AllocErr
 
 fn read_value(alloc: Global, from: &[u8]) -> Result<Option<(Option<Bytes>, &[u8])>, AllocError>
     ensures found { IfOk result (λ read. IfSome read (λ found. from.now ≡ value_spelling found.0 ++ found.1.now)) }
-    ensures short { IfOk result (λ read. IfSome read (λ found. IfSome found.0 (λ value. length value ≤ 65536))) }
+    ensures short { IfOk result (λ read. IfSome read (λ found. IfSome found.0 IsValue)) }
     ensures none { IfOk result (λ read. IfNone read ((value : Option (List ℕ)) (rest : List ℕ)
-        → IfSome value (λ bytes. length bytes ≤ 65536) → from.now ≡ value_spelling value ++ rest → ⊥)) }
+        → IfSome value IsValue → from.now ≡ value_spelling value ++ rest → ⊥)) }
 {
     match from {
         [DELETED, rest @ ..] => Ok(Some((None, rest))),

@@ -2,9 +2,8 @@ ghost use Rattle.std.specs.Prelude.{ℕ, ◌≡◌, ◌<◌, ◌^◌, ◌++◌, 
 ghost use Rattle.pb_keys.specs.Span.{KeySpan, IsSpan, span_of};
 ghost use Rattle.pb_table.specs.Spelling.{counted, span_spelling};
 
-use super::fields::{split_field, split_varint};
-use pb_bytes::{put_field, put_varint};
-use pb_keys::{Span, SpanError};
+use pb_bytes::{put_field, put_varint, split_field, split_varint};
+use pb_keys::Span;
 use std::alloc::{AllocError, Global};
 
 /// Appends the number of the spans and their ends.
@@ -63,9 +62,8 @@ fn read_span(alloc: Global, from: &[u8]) -> Result<Option<(Span, &[u8])>, AllocE
     let Some((hi, rest)) = split_field(rest) else {
         return Ok(None);
     };
-    match Span::new(alloc, lo, hi) {
-        Ok(span) => Ok(Some((span, rest))),
-        Err(SpanError::BadSpan) => Ok(None),
-        Err(SpanError::NoMemory) => Err(AllocError),
-    }
+    let Some(span) = Span::read(alloc, lo, hi)? else {
+        return Ok(None);
+    };
+    Ok(Some((span, rest)))
 }

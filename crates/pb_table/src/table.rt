@@ -38,7 +38,7 @@ fn write_format_1(alloc: Global, layer: &Layer) -> Result<Bytes, AllocError>
     out.push(FORMAT_1)?;
     put_spans(alloc, &mut out, layer.dels())?;
     put_rows(alloc, &mut out, layer.rows())?;
-    let bytes = Bytes::new(alloc, &out)?;
+    let bytes = Bytes::from_vec(alloc, out)?;
     Ok(bytes)
 }
 

@@ -1,4 +1,4 @@
-use Rattle.std.proofs.Common.{ap, Err}
+use Rattle.std.proofs.Common.{ap, Ok}
 use Rattle.pb_table.proofs.ItemLemmas.{behind_lo, span_is}
 use Rattle.pb_table.proofs.spans.read_span.Goals as goal
 
@@ -7,8 +7,8 @@ returns-in_default-split_field-clause-none c = λ span rest is spelled.
     c.in_default-split_field.ensures.none span.hi rest
     (behind_lo c.args.from.now c.in-Some.lo.now c.in-Some.rest.now c.in-Some.ensures.found c.in-Some.ensures.short span rest is spelled).1
 
-pub returns-in-Err-BadSpan-clause-none : goal.returns-in-Err-BadSpan-clause-none
-returns-in-Err-BadSpan-clause-none c = λ span rest is spelled.
-    c.in-Err-BadSpan.ensures.bad.0 (ap Err c.in-Err-BadSpan.field-0-is)
+pub returns-in_default-2-clause-none : goal.returns-in_default-2-clause-none
+returns-in_default-2-clause-none c = λ span rest is spelled.
+    c.in_ok-span.ensures.none.0 (ap Ok c.in_default-2.is)
     (span_is c.args.from.now c.in-Some.lo.now c.in-Some.rest.now c.in-Some.ensures.found c.in-Some.ensures.short
     c.in-Some-split_field.hi.now c.in-Some-split_field.rest.now c.in-Some-split_field.ensures.found c.in-Some-split_field.ensures.short span rest is spelled)

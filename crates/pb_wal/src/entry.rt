@@ -7,7 +7,7 @@ ghost use Rattle.pb_wal.specs.declared.entry.Change.TheVariants.{Set};
 use crate::decode::read_change;
 use crate::encode::put_entry;
 use pb_bytes::split_number;
-use pb_keys::{Bytes, Key, Span};
+use pb_keys::{Bytes, Copies, Key, Span};
 use std::alloc::{AllocError, Global};
 
 /// A command that changes a map.
@@ -58,6 +58,12 @@ impl Change {
                 Ok(Change::DelRange(span))
             }
         }
+    }
+}
+
+impl Copies for Change {
+    fn copied(&self, alloc: Global) -> Result<Change, AllocError> {
+        self.copy(alloc)
     }
 }
 

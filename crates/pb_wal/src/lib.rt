@@ -8,6 +8,3 @@ mod kinds;
 mod parts;
 
 pub use entry::{Change, Entry};
-
-#[cfg(test)]
-mod tests;

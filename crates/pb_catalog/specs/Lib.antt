@@ -1,0 +1,6 @@
+pub mod Catalog
+pub mod Calls
+pub mod Entered
+pub mod Faults
+pub mod Found
+pub mod Left

@@ -23,7 +23,7 @@ pub or_turned : (a b : Bool) → (a || b) ≡ (b || a)
 or_turned true b = sym (or_true b)
 or_turned false b = sym (or_false b)
 
-and_false : (b : Bool) → (b && false) ≡ false
+pub and_false : (b : Bool) → (b && false) ≡ false
 and_false true = refl
 and_false false = refl
 
@@ -31,7 +31,7 @@ pub and_grouped : (a b c : Bool) → ((a && b) && c) ≡ (a && (b && c))
 and_grouped true b c = refl
 and_grouped false b c = refl
 
-or_grouped : (a b c : Bool) → ((a || b) || c) ≡ (a || (b || c))
+pub or_grouped : (a b c : Bool) → ((a || b) || c) ≡ (a || (b || c))
 or_grouped true b c = refl
 or_grouped false b c = refl
 

@@ -82,16 +82,16 @@ module _ {X : Type 0} (r : X → X → Bool) (turned : (x y : X) → r x y ≡ r
 
 -- ---- tables
 
-pub apart_turned : (t u : TableView) → are_apart 0 t u ≡ are_apart 0 u t
+pub apart_turned : (level : ℕ) (t u : TableView) → are_apart level t u ≡ are_apart level u t
 unfolding overlap
-apart_turned t u = λ i.
-    not (number_turned t.rank u.rank i)
+apart_turned level t u = λ i.
+    (level == 0 && not (number_turned t.rank u.rank i))
     || not (and_turned (is_below t.view.bounds.lo u.view.bounds.hi) (is_below u.view.bounds.lo t.view.bounds.hi) i)
 
 pub other_turned : (t u : TableView) → other_number t u ≡ other_number u t
 other_turned t u = ap not (number_turned u.number t.number)
 
-not_any : {X : Type 0} (p : X → Bool) (xs : List X) → not (list_any p xs) ≡ list_all (λ x. not (p x)) xs
+pub not_any : {X : Type 0} (p : X → Bool) (xs : List X) → not (list_any p xs) ≡ list_all (λ x. not (p x)) xs
 not_any p [] = refl
 not_any p (x ∷ xs) = not_or (p x) (list_any p xs) ∙ ap (λ b. not (p x) && b) (not_any p xs)
 

@@ -1,7 +1,9 @@
 -- Edits that the laws compute with.
-use Rattle.std.specs.Prelude.{ℕ, List, [], ◌∷◌, Option, Some, None, false, true}
+use Rattle.std.specs.Prelude.{ℕ, List, [], ◌∷◌, replicate, Option, Some, None, false, true}
 use Rattle.pb_edit.specs.Edit.{VersionEdit, PhysicalItem}
 use Rattle.pb_keys.specs.Span.{span_of}
+use Rattle.pb_rows.specs.ChangingLayers.{row_of}
+use Rattle.pb_rows.specs.Layer.{KeyLayer, layer_of}
 use Rattle.pb_rows.specs.Viewed.{plain_view}
 use Rattle.pb_version.specs.Version.{TableView, VersionView}
 
@@ -29,14 +31,14 @@ edit_without_format = with_physical (Some 0) (Some 64) (Some 3) (Some 0) None []
 
 abbrev pub new_store : VersionView
 new_store = record {
-  levels = [] ∷ [];
+  levels = replicate 7 [];
   backings = [];
   five = record { accepted = 0; next = 64; log = 3; flushed = 0; format = 1 };
 }
 
 -- of a flush at count 2: the table 4 of 8 bytes with the keys from a up to b, and the log 5
-abbrev pub flush_edit : VersionEdit
-flush_edit =
+abbrev pub first_flush : VersionEdit
+first_flush =
     with_physical (Some 2) None (Some 5) (Some 2) None
     ((record { level = 0; number = 4; rank = 4; size = 8; lo = 97 ∷ []; hi = 98 ∷ [] }) ∷ [])
 
@@ -52,7 +54,7 @@ flushed_table = record {
 
 abbrev pub flushed_store : VersionView
 flushed_store = record {
-  levels = (flushed_table ∷ []) ∷ [];
+  levels = (flushed_table ∷ []) ∷ replicate 6 [];
   backings = [];
   five = record { accepted = 2; next = 64; log = 5; flushed = 2; format = 1 };
 }
@@ -74,7 +76,28 @@ carved_store = record {
     size = 8;
     view = plain_view (span_of (97 ∷ []) (97 ∷ 33 ∷ []));
     is_virtual = true;
-  }) ∷ []) ∷ [];
+  }) ∷ []) ∷ replicate 6 [];
   backings = (record { number = 4; size = 8 }) ∷ [];
   five = record { accepted = 3; next = 64; log = 5; flushed = 2; format = 1 };
 }
+
+-- tables of one span on the levels 0, 1 and 6, each of which sets the key a to its own number
+abbrev pub table_from : List ℕ → List ℕ → ℕ → ℕ → TableView
+table_from lo hi number rank = record {
+  number = number;
+  rank = rank;
+  backing = number;
+  size = 8;
+  view = plain_view (span_of lo hi);
+  is_virtual = false;
+}
+
+abbrev pub stacked : List TableView → List TableView → VersionView
+stacked first second = record {
+  levels = first ∷ second ∷ [] ∷ [] ∷ [] ∷ [] ∷ (table_from (97 ∷ []) (98 ∷ []) 4 4 ∷ []) ∷ [];
+  backings = [];
+  five = record { accepted = 2; next = 64; log = 5; flushed = 2; format = 1 };
+}
+
+abbrev pub sets_its_number : ℕ → KeyLayer
+sets_its_number number = layer_of [] (row_of (97 ∷ []) (Some (number ∷ [])) ∷ [])

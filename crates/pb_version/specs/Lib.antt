@@ -6,5 +6,10 @@ pub mod SaysVersion
 pub mod Meaning
 pub mod Snapshot
 pub mod Examples
-pub mod LevelZero
 pub mod State
+pub mod Follows
+pub mod Judged
+pub mod Stored
+pub mod Flush
+pub mod Items
+pub mod Adding

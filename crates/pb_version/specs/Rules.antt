@@ -2,8 +2,8 @@
 use Rattle.std.specs.Prelude.{ℕ, List, [], ◌∷◌, ◌++◌, map, length, Bool, true, not, ◌&&◌, ◌||◌, ◌==◌, nat_lt, nat_le, if◌then◌else◌, Option, Some, None, is_some}
 use Rattle.std.specs.List.{list_any, list_all}
 use Rattle.pb_edit.specs.Edit.{CreatedItem, VersionEdit}
-use Rattle.pb_keys.specs.Span.{overlap, is_span}
-use Rattle.pb_keys.specs.View.{KeyView, is_prefix, is_suffix}
+use Rattle.pb_keys.specs.Span.{overlap}
+use Rattle.pb_keys.specs.View.{KeyView, is_view}
 use Rattle.pb_version.specs.declared.broken.Broken.{Broken}
 use Rattle.pb_version.specs.declared.broken.Broken.TheVariants.{V1, V2, V3, V4, V5, V6, V7, V8, V9}
 use Rattle.pb_version.specs.Version.{TableView, FiveNumbers, VersionView, tables_of_level, all_tables}
@@ -57,11 +57,11 @@ keeps_v2 old edit =
 abbrev pub has_no_parts : KeyView → Bool
 has_no_parts view = length view.prefix == 0 && length view.suffix == 0
 
-abbrev pub is_view : KeyView → Bool
-is_view view = is_span view.bounds && is_prefix view.prefix && is_suffix view.suffix && has_no_parts view
+abbrev pub is_plain_view : KeyView → Bool
+is_plain_view view = is_view view && has_no_parts view
 
 abbrev pub keeps_v3 : VersionView → VersionEdit → Bool
-keeps_v3 old edit = list_all (λ t. is_view t.view) (new_tables old edit)
+keeps_v3 old edit = list_all (λ t. is_plain_view t.view) (new_tables old edit)
 
 -- ---- V4: a new table overlaps no other of its level that stays or is new; on level 0 it may, with another rank
 
@@ -87,17 +87,17 @@ keeps_v4 old edit = list_all (λ kept. kept) (each_level (level_keeps_v4 old edi
 -- ---- V5: a created backing is new and reserved, and is that of a physical table which the edit deletes, or of no table
 
 -- whether a physical table of this number and size goes from the level
-abbrev pub lets_go : VersionEdit → CreatedItem → ℕ → List TableView → Bool
-lets_go edit c level tables =
+abbrev pub is_freed_physical : VersionEdit → CreatedItem → ℕ → List TableView → Bool
+is_freed_physical edit c level tables =
     list_any (λ t. is_deleted edit level t && not t.is_virtual && t.number == c.number && t.size == c.size) tables
 
-abbrev pub is_let_go : VersionView → VersionEdit → CreatedItem → Bool
-is_let_go old edit c = list_any (λ goes. goes) (each_level (lets_go edit c) 0 old.levels)
+abbrev pub is_freed : VersionView → VersionEdit → CreatedItem → Bool
+is_freed old edit c = list_any (λ goes. goes) (each_level (is_freed_physical edit c) 0 old.levels)
 
 abbrev pub is_backing_anew : VersionView → VersionEdit → CreatedItem → Bool
 is_backing_anew old edit c =
     not (has_backing old.backings c.number)
-    && (is_let_go old edit c || not (has_number (all_tables old) c.number))
+    && (is_freed old edit c || not (has_number (all_tables old) c.number))
     && is_reserved old edit c.number
 
 abbrev pub keeps_v5 : VersionView → VersionEdit → Bool
@@ -113,18 +113,18 @@ keeps_v6 old edit = list_all (has_its_backing (backings_after old edit)) (all_ta
 
 -- ---- V7: a removed backing was there, and after the edit each backing has a virtual table
 
-abbrev pub is_shown : List TableView → ℕ → Bool
-is_shown tables backing = list_any (λ t. t.is_virtual && t.backing == backing) tables
+abbrev pub has_virtual : List TableView → ℕ → Bool
+has_virtual tables backing = list_any (λ t. t.is_virtual && t.backing == backing) tables
 
 abbrev pub keeps_v7 : VersionView → VersionEdit → Bool
 keeps_v7 old edit =
     list_all (has_backing old.backings) edit.removed
-    && list_all (λ b. is_shown (all_tables (edited old edit)) b.number) (backings_after old edit)
+    && list_all (λ b. has_virtual (all_tables (edited old edit)) b.number) (backings_after old edit)
 
 -- ---- V8: counts, reserved numbers and format don't fall, the five numbers fit each other, and the first edit has them all
 
-abbrev pub none_falls : FiveNumbers → FiveNumbers → Bool
-none_falls old new =
+abbrev pub none_of_four_falls : FiveNumbers → FiveNumbers → Bool
+none_of_four_falls old new =
     nat_le old.accepted new.accepted && nat_le old.next new.next && nat_le old.flushed new.flushed && nat_le old.format new.format
 
 abbrev pub fit_each_other : FiveNumbers → Bool
@@ -136,7 +136,7 @@ has_all_five edit = is_some edit.accepted && is_some edit.next && is_some edit.l
 -- before the first edit the format is 0
 abbrev pub keeps_v8 : VersionView → VersionEdit → Bool
 keeps_v8 old edit =
-    none_falls old.five (five_after old.five edit)
+    none_of_four_falls old.five (five_after old.five edit)
     && fit_each_other (five_after old.five edit)
     && (not (old.five.format == 0) || has_all_five edit)
 

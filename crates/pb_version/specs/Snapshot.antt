@@ -4,7 +4,7 @@ use Rattle.std.specs.Prelude.{ℕ, List, [], map, not, Some}
 use Rattle.std.specs.List.{filter}
 use Rattle.pb_edit.specs.Edit.{PhysicalItem, VirtualItem, VersionEdit}
 use Rattle.pb_edit.specs.Grammar.{physical_below, virtual_below}
-use Rattle.pb_version.specs.Version.{TableView, VersionView, joined}
+use Rattle.pb_version.specs.Version.{TableView, VersionView, flattened}
 use Rattle.pb_version.specs.Edited.{all_placed, each_level}
 
 abbrev pub physical_item : ℕ → TableView → PhysicalItem
@@ -43,8 +43,8 @@ snapshot_of v = record {
   flushed = Some v.five.flushed;
   format = Some v.five.format;
   deleted = [];
-  physical = joined (each_level physical_items 0 v.levels);
-  virtuals = joined (each_level virtual_items 0 v.levels);
+  physical = flattened (each_level physical_items 0 v.levels);
+  virtuals = flattened (each_level virtual_items 0 v.levels);
   created = v.backings;
   removed = [];
 }

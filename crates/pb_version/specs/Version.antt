@@ -1,6 +1,5 @@
 -- Versions: the tables of each level, the backings, and five numbers.
-use Rattle.std.specs.Prelude.{ℕ, ◌+◌, List, [], ◌∷◌, ◌++◌, Bool, ◌==◌, if◌then◌else◌, Option, Some, None, replicate, slice_index_or}
-use Rattle.pb_edit.specs.declared.grammar.TheConstants.{LAST_LEVEL}
+use Rattle.std.specs.Prelude.{ℕ, List, [], ◌∷◌, ◌++◌, Bool, ◌==◌, if◌then◌else◌, Option, Some, None, replicate, slice_index_or}
 use Rattle.pb_edit.specs.Edit.{CreatedItem}
 use Rattle.pb_keys.specs.View.{KeyView}
 
@@ -27,10 +26,14 @@ pub record VersionView : Type 0 where
   pub backings : List CreatedItem
   pub five : FiveNumbers
 
+-- of these
+abbrev pub version_of : List (List TableView) → List CreatedItem → FiveNumbers → VersionView
+version_of levels backings five = record { levels = levels; backings = backings; five = five }
+
 -- before the first edit
 abbrev pub empty_version : VersionView
 empty_version = record {
-  levels = replicate (LAST_LEVEL + 1) [];
+  levels = replicate 7 [];
   backings = [];
   five = record { accepted = 0; next = 0; log = 0; flushed = 0; format = 0 };
 }
@@ -39,14 +42,14 @@ empty_version = record {
 abbrev pub tables_of_level : VersionView → ℕ → List TableView
 tables_of_level v level = slice_index_or v.levels level []
 
-abbrev pub joined : {X : Type 0} → List (List X) → List X
-joined [] = []
-joined (xs ∷ []) = xs
-joined (xs ∷ ys ∷ others) = xs ++ joined (ys ∷ others)
+abbrev pub flattened : {X : Type 0} → List (List X) → List X
+flattened [] = []
+flattened (xs ∷ []) = xs
+flattened (xs ∷ ys ∷ others) = xs ++ flattened (ys ∷ others)
 
 -- level by level
 abbrev pub all_tables : VersionView → List TableView
-all_tables v = joined v.levels
+all_tables v = flattened v.levels
 
 -- the size of the backing of this number, if there is one
 abbrev pub size_of : List CreatedItem → ℕ → Option ℕ

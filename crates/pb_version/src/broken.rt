@@ -18,7 +18,7 @@ pub enum Broken {
     #[error("a removed backing wasn't there, or a backing has no virtual table after the edit")]
     V7,
     /// Of the five the number of the log may fall.
-    #[error("one of the five numbers falls, doesn't fit the others, or is missing in the first edit")]
+    #[error("counts, reserved numbers or format fall, the five numbers don't fit each other, or one is missing in the first edit")]
     V8,
     #[error("more than 4,096 tables stand after the edit")]
     V9,

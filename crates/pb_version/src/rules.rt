@@ -1,38 +1,41 @@
-//! The rules of an edit, over a version whose only level is 0.
-ghost use Rattle.std.specs.Prelude.{◌≡◌, length, not};
-ghost use Rattle.std.specs.List.{list_all, filter};
-ghost use Rattle.pb_version.specs.Rules.{has_backing, has_its_backing, none_falls, fit_each_other, has_all_five};
-ghost use Rattle.pb_version.specs.LevelZero.{goes, deletes_what_stands, is_free_of, all_below, are_numbered_anew, early_broken, stands_apart, are_apart_after, lets_go_of, is_new_backing, keeps_its_backing, have_backings, is_still_shown, is_shown_after, is_created_shown, leaves_another, are_shown, fits_after, are_few, late_broken};
+//! The rules of an edit, each by what the edit touches.
+ghost use Rattle.std.specs.Prelude.{◌≡◌, ◌+◌, ◌≤◌, length, map, nat_le};
+ghost use Rattle.std.specs.List.{list_all};
+ghost use Rattle.pb_version.specs.Rules.{has_backing, has_its_backing, none_of_four_falls, fit_each_other, has_all_five};
+ghost use Rattle.pb_version.specs.Judged.{each_two, all_levels, any_level, total, stay, deletes_existing, is_free_of, all_below, broken_against_old, overlaps_none, level_is_apart, are_apart_after, frees_physical, is_new_backing, keeps_its_backing, keep_their_backings, have_new_backings, have_backings, is_still_shown, is_shown_by, is_shown_after, orphans_no_backing, orphan_no_backing, is_created_shown, are_shown, fits_after, stay_counts, counts_after, fit_the_limit, broken_against_new};
 
 use super::scans::{
-    are_all_apart, are_apart, are_distinct, goes, has_backing, has_number, is_listed, is_shown,
+    are_all_apart, are_apart, are_distinct, deletes_from, has_backing, has_number, has_number_on,
+    has_virtual, is_gone, is_listed, level_of,
 };
-use super::{Broken, Five, Table};
+use super::{Broken, Five, Levels, Table};
 use pb_edit::{Created, Deleted, Edit};
 
 /// The most tables of a version.
 pub const MAX_TABLES: usize = 4096;
 
-fn deletes_what_stands(tables: &[Table], deleted: &[Deleted]) -> bool
-    ensures { result ≡ deletes_what_stands tables.now deleted.now }
+fn deletes_existing(levels: &Levels, deleted: &[Deleted]) -> bool
+    ensures { result ≡ deletes_existing (map (λ l. l.items) levels.now) deleted.now }
 {
     deleted
         .iter()
-        .all(|d| d.level == 0 && has_number(tables, d.number))
+        .all(|d| has_number(level_of(levels, d.level), d.number))
 }
 
-fn is_free(tables: &[Table], backings: &[Created], created: &[Created], number: u64) -> bool
-    ensures { result ≡ is_free_of tables.now backings.now created.now number }
+fn is_free(levels: &Levels, backings: &[Created], created: &[Created], number: u64) -> bool
+    ensures { result ≡ is_free_of (map (λ l. l.items) levels.now) backings.now created.now number }
 {
-    !has_number(tables, number) && !has_backing(backings, number) && !has_backing(created, number)
+    !has_number_on(levels, number)
+        && !has_backing(backings, number)
+        && !has_backing(created, number)
 }
 
-fn are_free(tables: &[Table], backings: &[Created], created: &[Created], numbers: &[u64]) -> bool
-    ensures { result ≡ list_all (is_free_of tables.now backings.now created.now) numbers.now }
+fn are_free(levels: &Levels, backings: &[Created], created: &[Created], numbers: &[u64]) -> bool
+    ensures { result ≡ list_all (is_free_of (map (λ l. l.items) levels.now) backings.now created.now) numbers.now }
 {
     numbers
         .iter()
-        .all(|n| is_free(tables, backings, created, *n))
+        .all(|n| is_free(levels, backings, created, *n))
 }
 
 fn are_below(next: u64, numbers: &[u64]) -> bool
@@ -42,21 +45,21 @@ fn are_below(next: u64, numbers: &[u64]) -> bool
 }
 
 /// The first of V1 and V2 that is broken, by the numbers and ranks of the new tables.
-pub(crate) fn early_broken(
-    tables: &[Table],
+pub(crate) fn broken_against_old(
+    levels: &Levels,
     backings: &[Created],
     next: u64,
     edit: &Edit,
     numbers: &[u64],
     ranks: &[u64],
 ) -> Option<Broken>
-    ensures { result ≡ early_broken tables.now backings.now next edit.now numbers.now ranks.now }
+    ensures { result ≡ broken_against_old (map (λ l. l.items) levels.now) backings.now next edit.now numbers.now ranks.now }
 {
-    if !deletes_what_stands(tables, edit.deleted.as_slice()) {
+    if !deletes_existing(levels, edit.deleted.as_slice()) {
         return Some(Broken::V1);
     }
     if !are_distinct(numbers)
-        || !are_free(tables, backings, edit.created.as_slice(), numbers)
+        || !are_free(levels, backings, edit.created.as_slice(), numbers)
         || !are_below(next, numbers)
         || !are_below(next, ranks)
     {
@@ -65,119 +68,269 @@ pub(crate) fn early_broken(
     None
 }
 
-fn stands_apart(tables: &[Table], deleted: &[Deleted], t: &Table) -> bool
-    ensures { result ≡ stands_apart tables.now deleted.now t.now }
+fn overlaps_none(deleted: &[Deleted], level: u8, tables: &[Table], t: &Table) -> bool
+    ensures { result ≡ overlaps_none deleted.now level tables.now t.now }
 {
-    tables.iter().all(|u| are_apart(t, u) || goes(deleted, u))
+    tables
+        .iter()
+        .all(|u| are_apart(level, t, u) || is_gone(deleted, level, u))
 }
 
-fn all_stand_apart(tables: &[Table], deleted: &[Deleted], new: &[Table]) -> bool
-    ensures { result ≡ list_all (stands_apart tables.now deleted.now) new.now }
+fn all_overlap_none(deleted: &[Deleted], level: u8, tables: &[Table], new: &[Table]) -> bool
+    ensures { result ≡ list_all (overlaps_none deleted.now level tables.now) new.now }
 {
-    new.iter().all(|t| stands_apart(tables, deleted, t))
+    new.iter().all(|t| overlaps_none(deleted, level, tables, t))
 }
 
-fn are_apart_after(tables: &[Table], deleted: &[Deleted], new: &[Table]) -> bool
-    ensures { result ≡ are_apart_after tables.now deleted.now new.now }
+fn level_is_apart(deleted: &[Deleted], level: u8, new: &[Table], tables: &[Table]) -> bool
+    ensures { result ≡ level_is_apart deleted.now level new.now tables.now }
 {
-    are_all_apart(new) && all_stand_apart(tables, deleted, new)
+    are_all_apart(level, new) && all_overlap_none(deleted, level, tables, new)
 }
 
-fn lets_go(tables: &[Table], deleted: &[Deleted], c: &Created) -> bool
-    ensures { result ≡ lets_go_of tables.now deleted.now c.now }
+/// From this level on.
+fn are_apart_from(level: u8, levels: &[Vec<Table>], deleted: &[Deleted], new: &[Vec<Table>]) -> bool
+    requires { level + length levels.now ≤ 7 }
+    ensures { result ≡ list_all (λ apart. apart) (each_two (level_is_apart deleted.now) level (map (λ l. l.items) new.now) (map (λ l. l.items) levels.now)) }
 {
-    tables.iter().any(|t| goes(deleted, t)
+    match levels {
+        [] => true,
+        [first, rest @ ..] => match new {
+            [] => true,
+            [made, more @ ..] => {
+                level_is_apart(deleted, level, made.as_slice(), first.as_slice())
+                    && are_apart_from(level + 1, rest, deleted, more)
+            }
+        },
+    }
+}
+
+fn frees_physical(deleted: &[Deleted], c: &Created, level: u8, tables: &[Table]) -> bool
+    ensures { result ≡ frees_physical deleted.now c.now level tables.now }
+{
+    tables.iter().any(|t| is_gone(deleted, level, t)
         && !t.is_virtual
         && t.number == c.number
         && t.size == c.size)
 }
 
+/// From this level on.
+fn any_frees_physical(level: u8, levels: &[Vec<Table>], deleted: &[Deleted], c: &Created) -> bool
+    requires { level + length levels.now ≤ 7 }
+    ensures { result ≡ any_level (frees_physical deleted.now c.now) level (map (λ l. l.items) levels.now) }
+{
+    match levels {
+        [] => false,
+        [first, rest @ ..] => {
+            frees_physical(deleted, c, level, first.as_slice())
+                || any_frees_physical(level + 1, rest, deleted, c)
+        }
+    }
+}
+
+/// Whether a physical table of the backing's number and size is deleted. Nothing is looked up where no table is.
+fn is_freed(levels: &Levels, deleted: &[Deleted], c: &Created) -> bool
+    ensures { result ≡ any_level (frees_physical deleted.now c.now) 0 (map (λ l. l.items) levels.now) }
+{
+    if deleted.is_empty() {
+        return false;
+    }
+    any_frees_physical(0, levels, deleted, c)
+}
+
 fn is_new_backing(
-    tables: &[Table],
+    levels: &Levels,
     backings: &[Created],
     next: u64,
     deleted: &[Deleted],
     c: &Created,
 ) -> bool
-    ensures { result ≡ is_new_backing tables.now backings.now next deleted.now c.now }
+    ensures { result ≡ is_new_backing (map (λ l. l.items) levels.now) backings.now next deleted.now c.now }
 {
     !has_backing(backings, c.number)
-        && (lets_go(tables, deleted, c) || !has_number(tables, c.number))
+        && (is_freed(levels, deleted, c) || !has_number_on(levels, c.number))
         && c.number < next
 }
 
-fn are_new_backings(tables: &[Table], backings: &[Created], next: u64, edit: &Edit) -> bool
-    ensures { result ≡ list_all (is_new_backing tables.now backings.now next edit.now.deleted) edit.now.created }
+fn are_new_backings(
+    levels: &Levels,
+    backings: &[Created],
+    next: u64,
+    deleted: &[Deleted],
+    created: &[Created],
+) -> bool
+    ensures { result ≡ list_all (is_new_backing (map (λ l. l.items) levels.now) backings.now next deleted.now) created.now }
 {
-    let deleted = edit.deleted.as_slice();
-    edit.created
-        .as_slice()
+    created
         .iter()
-        .all(|c| is_new_backing(tables, backings, next, deleted, c))
+        .all(|c| is_new_backing(levels, backings, next, deleted, c))
 }
 
-fn have_new_backings(after: &[Created], new: &[Table]) -> bool
+fn have_their_backings(after: &[Created], new: &[Table]) -> bool
     ensures { result ≡ list_all (has_its_backing after.now) new.now }
 {
     new.iter()
         .all(|t| !t.is_virtual || has_backing(after, t.backing))
 }
 
-fn keep_their_backings(tables: &[Table], deleted: &[Deleted], removed: &[u64]) -> bool
-    ensures { result ≡ list_all (keeps_its_backing deleted.now removed.now) tables.now }
+fn have_new_backings(after: &[Created], new: &[Vec<Table>]) -> bool
+    ensures { result ≡ have_new_backings after.now (map (λ l. l.items) new.now) }
 {
-    tables.iter().all(|t| !t.is_virtual || !is_listed(removed, t.backing) || goes(deleted, t))
+    match new {
+        [] => true,
+        [first, rest @ ..] => {
+            have_their_backings(after, first.as_slice()) && have_new_backings(after, rest)
+        }
+    }
 }
 
-fn have_backings(tables: &[Table], edit: &Edit, after: &[Created], new: &[Table]) -> bool
-    ensures { result ≡ have_backings tables.now edit.now.deleted edit.now.removed after.now new.now }
+fn keep_their_backings(deleted: &[Deleted], removed: &[u64], level: u8, tables: &[Table]) -> bool
+    ensures { result ≡ keep_their_backings deleted.now removed.now level tables.now }
 {
-    have_new_backings(after, new)
-        && keep_their_backings(tables, edit.deleted.as_slice(), edit.removed.as_slice())
+    tables.iter().all(|t| {
+        !t.is_virtual || !is_listed(removed, t.backing) || is_gone(deleted, level, t)
+    })
 }
 
-fn is_still_shown(tables: &[Table], deleted: &[Deleted], backing: u64) -> bool
-    ensures { result ≡ is_still_shown tables.now deleted.now backing }
-{
-    tables.iter().any(|t| t.is_virtual && t.backing == backing && !goes(deleted, t))
-}
-
-fn is_shown_after(tables: &[Table], deleted: &[Deleted], new: &[Table], backing: u64) -> bool
-    ensures { result ≡ is_shown_after tables.now deleted.now new.now backing }
-{
-    is_shown(new, backing) || is_still_shown(tables, deleted, backing)
-}
-
-fn leaves_another(
-    tables: &[Table],
+/// From this level on.
+fn all_keep_their_backings(
+    level: u8,
+    levels: &[Vec<Table>],
     deleted: &[Deleted],
     removed: &[u64],
-    new: &[Table],
+) -> bool
+    requires { level + length levels.now ≤ 7 }
+    ensures { result ≡ all_levels (keep_their_backings deleted.now removed.now) level (map (λ l. l.items) levels.now) }
+{
+    match levels {
+        [] => true,
+        [first, rest @ ..] => {
+            keep_their_backings(deleted, removed, level, first.as_slice())
+                && all_keep_their_backings(level + 1, rest, deleted, removed)
+        }
+    }
+}
+
+/// Without a removed backing no table loses its own.
+fn keep_backings(levels: &Levels, deleted: &[Deleted], removed: &[u64]) -> bool
+    ensures { result ≡ all_levels (keep_their_backings deleted.now removed.now) 0 (map (λ l. l.items) levels.now) }
+{
+    if removed.is_empty() {
+        return true;
+    }
+    all_keep_their_backings(0, levels, deleted, removed)
+}
+
+fn have_backings(levels: &Levels, edit: &Edit, after: &[Created], new: &Levels) -> bool
+    ensures { result ≡ have_backings (map (λ l. l.items) levels.now) edit.now.deleted edit.now.removed after.now (map (λ l. l.items) new.now) }
+{
+    have_new_backings(after, new)
+        && keep_backings(levels, edit.deleted.as_slice(), edit.removed.as_slice())
+}
+
+fn is_still_shown(deleted: &[Deleted], backing: u64, level: u8, tables: &[Table]) -> bool
+    ensures { result ≡ is_still_shown deleted.now backing level tables.now }
+{
+    tables.iter().any(|t| t.is_virtual && t.backing == backing && !is_gone(deleted, level, t))
+}
+
+/// From this level on.
+fn any_still_shows(level: u8, levels: &[Vec<Table>], deleted: &[Deleted], backing: u64) -> bool
+    requires { level + length levels.now ≤ 7 }
+    ensures { result ≡ any_level (is_still_shown deleted.now backing) level (map (λ l. l.items) levels.now) }
+{
+    match levels {
+        [] => false,
+        [first, rest @ ..] => {
+            is_still_shown(deleted, backing, level, first.as_slice())
+                || any_still_shows(level + 1, rest, deleted, backing)
+        }
+    }
+}
+
+fn is_shown_by(new: &[Vec<Table>], backing: u64) -> bool
+    ensures { result ≡ is_shown_by (map (λ l. l.items) new.now) backing }
+{
+    match new {
+        [] => false,
+        [first, rest @ ..] => has_virtual(first.as_slice(), backing) || is_shown_by(rest, backing),
+    }
+}
+
+fn is_shown_after(levels: &Levels, deleted: &[Deleted], new: &Levels, backing: u64) -> bool
+    ensures { result ≡ is_shown_after (map (λ l. l.items) levels.now) deleted.now (map (λ l. l.items) new.now) backing }
+{
+    is_shown_by(new, backing) || any_still_shows(0, levels, deleted, backing)
+}
+
+fn orphans_no_backing(
+    levels: &Levels,
+    deleted: &[Deleted],
+    removed: &[u64],
+    new: &Levels,
+    level: u8,
     t: &Table,
 ) -> bool
-    ensures { result ≡ leaves_another tables.now deleted.now removed.now new.now t.now }
+    ensures { result ≡ orphans_no_backing (map (λ l. l.items) levels.now) deleted.now removed.now (map (λ l. l.items) new.now) level t.now }
 {
     !t.is_virtual
-        || !goes(deleted, t)
+        || !is_gone(deleted, level, t)
         || is_listed(removed, t.backing)
-        || is_shown_after(tables, deleted, new, t.backing)
+        || is_shown_after(levels, deleted, new, t.backing)
 }
 
-fn leave_others(tables: &[Table], deleted: &[Deleted], removed: &[u64], new: &[Table]) -> bool
-    ensures { result ≡ list_all (leaves_another tables.now deleted.now removed.now new.now) tables.now }
+fn orphan_no_backing(
+    levels: &Levels,
+    deleted: &[Deleted],
+    removed: &[u64],
+    new: &Levels,
+    level: u8,
+    tables: &[Table],
+) -> bool
+    ensures { result ≡ orphan_no_backing (map (λ l. l.items) levels.now) deleted.now removed.now (map (λ l. l.items) new.now) level tables.now }
 {
-    tables
+    tables.iter().all(|t| orphans_no_backing(levels, deleted, removed, new, level, t))
+}
+
+/// From this level on, of all levels.
+fn none_orphans(level: u8, from: &[Vec<Table>], levels: &Levels, edit: &Edit, new: &Levels) -> bool
+    requires { level + length from.now ≤ 7 }
+    ensures { result ≡ all_levels (orphan_no_backing (map (λ l. l.items) levels.now) edit.now.deleted edit.now.removed (map (λ l. l.items) new.now)) level (map (λ l. l.items) from.now) }
+{
+    match from {
+        [] => true,
+        [first, rest @ ..] => {
+            let deleted = edit.deleted.as_slice();
+            let removed = edit.removed.as_slice();
+            orphan_no_backing(levels, deleted, removed, new, level, first.as_slice())
+                && none_orphans(level + 1, rest, levels, edit, new)
+        }
+    }
+}
+
+/// Without a deleted table no backing loses one.
+fn deleted_orphan_none(levels: &Levels, edit: &Edit, new: &Levels) -> bool
+    ensures { result ≡ all_levels (orphan_no_backing (map (λ l. l.items) levels.now) edit.now.deleted edit.now.removed (map (λ l. l.items) new.now)) 0 (map (λ l. l.items) levels.now) }
+{
+    if edit.deleted.as_slice().is_empty() {
+        return true;
+    }
+    none_orphans(0, levels, levels, edit, new)
+}
+
+fn is_created_shown(levels: &Levels, edit: &Edit, new: &Levels, c: &Created) -> bool
+    ensures { result ≡ is_created_shown (map (λ l. l.items) levels.now) edit.now (map (λ l. l.items) new.now) c.now }
+{
+    is_listed(edit.removed.as_slice(), c.number)
+        || is_shown_after(levels, edit.deleted.as_slice(), new, c.number)
+}
+
+fn are_created_shown(levels: &Levels, edit: &Edit, new: &Levels, created: &[Created]) -> bool
+    ensures { result ≡ list_all (is_created_shown (map (λ l. l.items) levels.now) edit.now (map (λ l. l.items) new.now)) created.now }
+{
+    created
         .iter()
-        .all(|t| leaves_another(tables, deleted, removed, new, t))
-}
-
-fn are_created_shown(tables: &[Table], edit: &Edit, new: &[Table]) -> bool
-    ensures { result ≡ list_all (is_created_shown tables.now edit.now new.now) edit.now.created }
-{
-    let deleted = edit.deleted.as_slice();
-    let removed = edit.removed.as_slice();
-    edit.created.as_slice().iter().all(|c| is_listed(removed, c.number)
-        || is_shown_after(tables, deleted, new, c.number))
+        .all(|c| is_created_shown(levels, edit, new, c))
 }
 
 fn are_backings(backings: &[Created], removed: &[u64]) -> bool
@@ -186,21 +339,16 @@ fn are_backings(backings: &[Created], removed: &[u64]) -> bool
     removed.iter().all(|n| has_backing(backings, *n))
 }
 
-fn are_shown(tables: &[Table], backings: &[Created], edit: &Edit, new: &[Table]) -> bool
-    ensures { result ≡ are_shown tables.now backings.now edit.now new.now }
+fn are_shown(levels: &Levels, backings: &[Created], edit: &Edit, new: &Levels) -> bool
+    ensures { result ≡ are_shown (map (λ l. l.items) levels.now) backings.now edit.now (map (λ l. l.items) new.now) }
 {
     are_backings(backings, edit.removed.as_slice())
-        && are_created_shown(tables, edit, new)
-        && leave_others(
-            tables,
-            edit.deleted.as_slice(),
-            edit.removed.as_slice(),
-            new,
-        )
+        && are_created_shown(levels, edit, new, edit.created.as_slice())
+        && deleted_orphan_none(levels, edit, new)
 }
 
-fn none_falls(old: &Five, new: &Five) -> bool
-    ensures { result ≡ none_falls old.now new.now }
+fn none_of_four_falls(old: &Five, new: &Five) -> bool
+    ensures { result ≡ none_of_four_falls old.now new.now }
 {
     old.accepted <= new.accepted
         && old.next <= new.next
@@ -227,50 +375,98 @@ fn has_all_five(edit: &Edit) -> bool
 fn fits_after(old: &Five, new: &Five, edit: &Edit) -> bool
     ensures { result ≡ fits_after old.now new.now edit.now }
 {
-    none_falls(old, new) && fit_each_other(new) && (old.format != 0 || has_all_five(edit))
+    none_of_four_falls(old, new) && fit_each_other(new) && (old.format != 0 || has_all_five(edit))
 }
 
-/// How many tables stay.
-pub(crate) fn staying(tables: &[Table], deleted: &[Deleted]) -> usize
-    ensures { result ≡ length (filter (λ t. not (goes deleted.now t)) tables.now) }
+/// How many tables of the level stay.
+fn staying(deleted: &[Deleted], level: u8, tables: &[Table]) -> usize
+    ensures { result ≡ length (stay deleted.now level tables.now) }
 {
-    tables.iter().filter(|t| !goes(deleted, t)).count()
+    if !deletes_from(deleted, level) {
+        return tables.len();
+    }
+    count_staying(deleted, level, tables)
 }
 
-fn are_few(tables: &[Table], deleted: &[Deleted], new: &[Table]) -> bool
-    ensures { result ≡ are_few tables.now deleted.now new.now }
+fn count_staying(deleted: &[Deleted], level: u8, tables: &[Table]) -> usize
+    ensures { result ≡ length (stay deleted.now level tables.now) }
 {
-    new.len() <= MAX_TABLES && staying(tables, deleted) <= MAX_TABLES - new.len()
+    tables
+        .iter()
+        .filter(|t| !is_gone(deleted, level, t))
+        .count()
 }
 
-/// The first of V4 to V9 that is broken, by the tables that are new and by the backings and numbers after the edit.
-pub(crate) fn late_broken(
-    tables: &[Table],
+/// How many tables of each level stay.
+pub(crate) fn stay_counts(deleted: &[Deleted], levels: &Levels) -> [usize; 7]
+    ensures { result ≡ stay_counts deleted.now (map (λ l. l.items) levels.now) }
+{
+    let [l0, l1, l2, l3, l4, l5, l6] = levels;
+    [
+        staying(deleted, 0, l0.as_slice()),
+        staying(deleted, 1, l1.as_slice()),
+        staying(deleted, 2, l2.as_slice()),
+        staying(deleted, 3, l3.as_slice()),
+        staying(deleted, 4, l4.as_slice()),
+        staying(deleted, 5, l5.as_slice()),
+        staying(deleted, 6, l6.as_slice()),
+    ]
+}
+
+/// Whether at most so many tables stand, of the new ones of each level and of those that stay.
+fn fit_within(new: &[Vec<Table>], stays: &[usize], most: usize) -> bool
+    ensures { result ≡ nat_le (total (counts_after (map (λ l. l.items) new.now) stays.now)) most }
+{
+    match new {
+        [] => true,
+        [first, rest @ ..] => match stays {
+            [] => true,
+            [here, more @ ..] => {
+                first.len() <= most
+                    && *here <= most - first.len()
+                    && fit_within(rest, more, most - first.len() - *here)
+            }
+        },
+    }
+}
+
+/// The first of V4 to V9 that is broken, by the tables that are new, by the backings and numbers after the edit, and by how many
+/// tables of each level stay.
+pub(crate) fn broken_against_new(
+    levels: &Levels,
     backings: &[Created],
     old: &Five,
     edit: &Edit,
-    new: &[Table],
+    new: &Levels,
     after: &[Created],
     five: &Five,
+    stays: &[usize],
 ) -> Option<Broken>
-    ensures { result ≡ late_broken tables.now backings.now old.now edit.now new.now after.now five.now }
+    ensures { result ≡ broken_against_new (map (λ l. l.items) levels.now) backings.now old.now edit.now (map (λ l. l.items) new.now) after.now five.now stays.now }
 {
-    if !are_apart_after(tables, edit.deleted.as_slice(), new) {
+    let deleted = edit.deleted.as_slice();
+    if !are_apart_from(0, levels, deleted, new) {
         return Some(Broken::V4);
     }
-    if !are_new_backings(tables, backings, five.next, edit) {
+    if !are_new_backings(
+        levels,
+        backings,
+        five.next,
+        deleted,
+        edit.created.as_slice(),
+    ) {
         return Some(Broken::V5);
     }
-    if !have_backings(tables, edit, after, new) {
+    if !have_backings(levels, edit, after, new) {
         return Some(Broken::V6);
     }
-    if !are_shown(tables, backings, edit, new) {
+    if !are_shown(levels, backings, edit, new) {
         return Some(Broken::V7);
     }
     if !fits_after(old, five, edit) {
         return Some(Broken::V8);
     }
-    if !are_few(tables, edit.deleted.as_slice(), new) {
+    if !fit_within(new, stays, MAX_TABLES) {
         return Some(Broken::V9);
     }
     None

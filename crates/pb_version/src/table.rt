@@ -1,4 +1,7 @@
+ghost use Rattle.std.specs.Prelude.{◌≡◌, [], map, replicate};
+
 use pb_keys::View;
+use std::alloc::Global;
 use std::marker::Model;
 
 /// A table: what a view shows of a backing. A physical table has bytes of its own, and its backing has its own number.
@@ -21,4 +24,22 @@ impl Model for Table {
     ghost Value = { TableView };
 
     ghost view = { λ t. record { number = t.number; rank = t.rank; backing = t.backing; size = t.size; view = t.view; is_virtual = t.is_virtual } };
+}
+
+/// The tables of each level, 0 to 6.
+pub(crate) type Levels = [Vec<Table>; 7];
+
+/// No table on any level. It takes no memory.
+pub(crate) fn no_tables(alloc: Global) -> Levels
+    ensures { map (λ l. l.items) result ≡ replicate 7 [] }
+{
+    [
+        Vec::new(alloc),
+        Vec::new(alloc),
+        Vec::new(alloc),
+        Vec::new(alloc),
+        Vec::new(alloc),
+        Vec::new(alloc),
+        Vec::new(alloc),
+    ]
 }

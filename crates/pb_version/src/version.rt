@@ -1,47 +1,48 @@
-ghost use Rattle.std.specs.Prelude.{◌≡◌, ◌≢◌, ◌≤◌, [], ◌∷◌, None, IfOk, IfErr, OnOk, OnErr};
+ghost use Rattle.std.specs.Prelude.{◌≡◌, ◌≢◌, ◌≤◌, [], ◌∷◌, None, length, map, IfOk, IfErr, OnOk, OnErr};
 ghost use Rattle.std.specs.List.{list_any};
-ghost use Rattle.pb_edit.specs.declared.grammar.TheConstants.{LAST_KIND};
 ghost use Rattle.pb_edit.specs.Edit.{VersionEdit};
 ghost use Rattle.pb_edit.specs.Grammar.{IsEdit};
 ghost use Rattle.pb_keys.specs.Span.{overlap};
-ghost use Rattle.pb_version.specs.Version.{empty_version, tables_of_level, size_of};
+ghost use Rattle.pb_version.specs.Version.{empty_version, all_tables, flattened, tables_of_level, size_of};
 ghost use Rattle.pb_version.specs.Edited.{edited};
 ghost use Rattle.pb_version.specs.Rules.{first_broken};
 ghost use Rattle.pb_version.specs.Snapshot.{snapshot_of};
 ghost use Rattle.pb_version.specs.Fold.{FoldsTo};
 ghost use Rattle.pb_version.specs.State.{IsVersion, IsSpellable, IsVerdict, Prepares};
 
-use super::copies::copy_of_tables;
-use super::installed::{merged, without_deleted};
+use super::copies::copy_of_levels;
+use super::installed::levels_after;
 use super::made::copy_of_backings;
-use super::prepared::{Prepared, ready_for};
-use super::scans::size_of;
+use super::prepared::{Prepared, judge_and_prepare};
+use super::scans::{level_of, size_of};
 use super::snapshot::edit_of;
-use super::{Broken, Five, Table};
+use super::table::no_tables;
+use super::{Broken, Five, Levels, Table};
 use pb_edit::{Created, Edit};
 use pb_keys::Span;
 use std::alloc::{AllocError, Global};
 use std::marker::Model;
+use std::mem;
 
 /// The tables of each level, the backings that virtual tables show, and five numbers. Contracts see a version as the record
 /// of these: docs/MODEL.md, "Versions".
 #[derive(Debug, Drop)]
 pub struct Version {
-    tables: Vec<Table>,
+    levels: Levels,
     backings: Vec<Created>,
     five: Five,
 }
 
 impl Model for Version {
-    ghost use Rattle.pb_version.specs.Version.{VersionView};
-    ghost use Rattle.pb_version.specs.LevelZero.{flat};
+    ghost use Rattle.std.specs.Prelude.{map};
+    ghost use Rattle.pb_version.specs.Version.{VersionView, version_of};
     ghost use Rattle.pb_version.specs.State.{IsVersion};
 
     ghost Value = { VersionView };
 
-    ghost view = { λ v. flat v.tables.items v.backings.items v.five };
+    ghost view = { λ v. version_of (map (λ l. l.items) v.levels) v.backings.items v.five };
 
-    ghost invariant = { λ v. IsVersion (flat v.tables.items v.backings.items v.five) };
+    ghost invariant = { λ v. IsVersion (version_of (map (λ l. l.items) v.levels) v.backings.items v.five) };
 }
 
 impl Version {
@@ -50,7 +51,7 @@ impl Version {
         ensures { result ≡ empty_version }
     {
         Version {
-            tables: Vec::new(alloc),
+            levels: no_tables(alloc),
             backings: Vec::new(alloc),
             five: Five {
                 accepted: 0,
@@ -68,9 +69,9 @@ impl Version {
         ensures ok { IfOk result (Prepares self.now edit.now) }
         ensures broken { IfErr result (IsVerdict (first_broken self.now edit.now)) }
     {
-        ready_for(
+        judge_and_prepare(
             alloc,
-            self.tables.as_slice(),
+            &self.levels,
             self.backings.as_slice(),
             &self.five,
             edit,
@@ -82,10 +83,18 @@ impl Version {
         requires { (edit : VersionEdit) × Prepares self.old edit prepared }
         ensures { (edit : VersionEdit) → Prepares self.old edit prepared → self.new ≡ edited self.old edit }
     {
-        without_deleted(&mut self.tables, prepared.deleted.as_slice());
-        self.tables = merged(&mut self.tables, prepared.tables, prepared.room);
-        self.backings = prepared.backings;
-        self.five = prepared.five;
+        let Prepared {
+            deleted,
+            tables,
+            backings,
+            five,
+            next_tables,
+            between,
+        } = prepared;
+        let standing = mem::replace(&mut self.levels, between);
+        self.levels = levels_after(deleted.as_slice(), standing, tables, next_tables);
+        self.backings = backings;
+        self.five = five;
     }
 
     /// Applies an edit. With a rule broken, and without memory, nothing has changed.
@@ -110,11 +119,14 @@ impl Version {
         ensures value { result.now ≡ tables_of_level self.now level }
         ensures in_form { IsVersion self.now }
     {
-        if level == 0 {
-            self.tables.as_slice()
-        } else {
-            &[]
-        }
+        level_of(&self.levels, level)
+    }
+
+    /// How many tables stand on all levels.
+    pub fn len(&self) -> usize
+        ensures { result ≡ length (all_tables self.now) }
+    {
+        count_from(&self.levels)
     }
 
     /// Whether a table of the level overlaps the span. Spans that touch don't overlap.
@@ -140,19 +152,14 @@ impl Version {
     }
 
     /// The edit that makes this version anew, with all five numbers: its tables by number, and its backings. Before the first
-    /// edit it would break V8. With backings it is an edit of the grammar only where their kind of items counts.
+    /// edit it would break V8. It is an edit of the grammar.
     pub fn snapshot(&self, alloc: Global) -> Result<Edit, AllocError>
         ensures ok { IfOk result (λ edit. edit ≡ snapshot_of self.now) }
         ensures folds { IfOk result (λ edit. self.now.five.format ≢ 0 → FoldsTo (edit ∷ []) self.now) }
         ensures spellable { IfOk result (λ edit. IsSpellable edit) }
-        ensures in_form { IfOk result (λ edit. (¬ (self.now.backings ≡ []) → 9 ≤ LAST_KIND) → IsEdit edit) }
+        ensures in_form { IfOk result (λ edit. IsEdit edit) }
     {
-        let edit = edit_of(
-            alloc,
-            self.tables.as_slice(),
-            self.backings.as_slice(),
-            &self.five,
-        )?;
+        let edit = edit_of(alloc, &self.levels, self.backings.as_slice(), &self.five)?;
         Ok(edit)
     }
 
@@ -160,13 +167,24 @@ impl Version {
     pub fn copy(&self, alloc: Global) -> Result<Version, AllocError>
         ensures ok { IfOk result (λ copy. copy ≡ self.now) }
     {
-        let tables = copy_of_tables(alloc, self.tables.as_slice())?;
+        let levels = copy_of_levels(alloc, &self.levels)?;
         let backings = copy_of_backings(alloc, self.backings.as_slice())?;
         Ok(Version {
-            tables,
+            levels,
             backings,
             five: self.five,
         })
+    }
+}
+
+/// How many tables these levels have.
+fn count_from(levels: &[Vec<Table>]) -> usize
+    requires { length (flattened (map (λ l. l.items) levels.now)) ≤ 4096 }
+    ensures { result ≡ length (flattened (map (λ l. l.items) levels.now)) }
+{
+    match levels {
+        [] => 0,
+        [first, rest @ ..] => first.len() + count_from(rest),
     }
 }
 
@@ -175,6 +193,3 @@ fn overlap_span(tables: &[Table], span: &Span) -> bool
 {
     tables.iter().any(|t| t.view.bounds.overlaps(span))
 }
-
-#[cfg(test)]
-mod tests;

@@ -1,5 +1,0 @@
-use Rattle.std.proofs.Common.{length}
-use Rattle.pb_version.proofs.version.tests.+are_physical.Given as goal
-
-abbrev pub decreases-are_physical : goal.decreases-are_physical
-decreases-are_physical l = length l.physical.now

@@ -4,11 +4,9 @@ use Rattle.std.specs.Prelude.{All, not, ◌&&◌}
 use Rattle.std.specs.List.{list_any}
 use Rattle.std.specs.List.Sorted.{IsPartitionPoint}
 use Rattle.std.specs.declared.cmp.Ordering.TheVariants.{Less}
-use Rattle.std.proofs.lemmas.Bool.{cases_lt}
+use Rattle.std.proofs.lemmas.Bool.{cases_lt, not-true, not-false}
 use Rattle.std.proofs.lemmas.List.{get_or_default}
 use Rattle.std.proofs.lemmas.List.Folds.{list_any_none, list_any_at}
-use Rattle.pb_rows.proofs.Tests.{not_so}
-use Rattle.pb_memtable.proofs.Bits.{so_not}
 use Rattle.pb_keys.specs.Key.{prefix_of, key_cmp}
 use Rattle.pb_keys.specs.Order.{is_below}
 use Rattle.pb_keys.specs.Span.{KeySpan, IsSpan, holds_key, overlap}
@@ -36,10 +34,10 @@ second_is_false : (a b : Bool) → (a && b) ≡ false → a ≡ true → b ≡ f
 second_is_false true b h k = h
 second_is_false false b h k = cc
 
-held_before : (span : KeySpan) (key : List ℕ) → is_below (prefix_of key) span.lo ≡ true → holds_key span key ≡ false
+pub held_before : (span : KeySpan) (key : List ℕ) → is_below (prefix_of key) span.lo ≡ true → holds_key span key ≡ false
 held_before span key h = holds_key-ends span key ∙ out_of_first (is_below (prefix_of key) span.lo) (is_below (prefix_of key) span.hi) h
 
-held_behind : (span : KeySpan) (key : List ℕ) → is_below (prefix_of key) span.hi ≡ false → holds_key span key ≡ false
+pub held_behind : (span : KeySpan) (key : List ℕ) → is_below (prefix_of key) span.hi ≡ false → holds_key span key ≡ false
 held_behind span key h = holds_key-ends span key ∙ out_of_second (not (is_below (prefix_of key) span.lo)) (is_below (prefix_of key) span.hi) h
 
 pub row_within_here : (rows : List KeyRow) (span : KeySpan) (at : ℕ) (r : KeyRow) → Rise rows → IsSpan span → IsPlaceOf span.lo rows at → at < length rows → r ≡ get_or rows at r → holds_key span r.key ≡ list_any (λ row. holds_key span row.key) rows
@@ -70,10 +68,10 @@ row_within_nowhere rows span at is place past =
 
 -- ---- deletions
 
-apart_before : (span del : KeySpan) → is_span_below span.lo del ≡ true → overlap span del ≡ false
-apart_before span del h = overlap-ends span del ∙ ap (λ b. b && is_below del.lo span.hi) (not_so (is_below span.lo del.hi) h)
+pub apart_before : (span del : KeySpan) → is_span_below span.lo del ≡ true → overlap span del ≡ false
+apart_before span del h = overlap-ends span del ∙ ap (λ b. b && is_below del.lo span.hi) (not-true (is_below span.lo del.hi) h)
 
-apart_behind : (span del : KeySpan) → is_below del.lo span.hi ≡ false → overlap span del ≡ false
+pub apart_behind : (span del : KeySpan) → is_below del.lo span.hi ≡ false → overlap span del ≡ false
 apart_behind span del h = overlap-ends span del ∙ out_of_second (is_below span.lo del.hi) (is_below del.lo span.hi) h
 
 pub overlap_here : (dels : List KeySpan) (span : KeySpan) (at : ℕ) (s : KeySpan) → All IsSpan dels → AreApart dels → IsPartitionPoint (λ d. is_span_below span.lo d ≡ true) (λ d. is_span_below span.lo d ≡ false) dels at → at < length dels → s ≡ get_or dels at s → overlap span s ≡ list_any (λ del. overlap span del) dels
@@ -87,7 +85,7 @@ overlap_here dels span at s are apart parted within s_is =
             | inl before ↦ apart_before span (get_or dels k d) (parted.0 k d (omega arith) before)
             | inr upto ↦ elim (cases_lt at k) [
               | inl after ↦
-                  let ends : is_below span.lo s.hi ≡ true = so_not (is_below span.lo s.hi) (subst (λ del. is_span_below span.lo del ≡ false) (here d) (parted.1 at d (omega arith) within)) in
+                  let ends : is_below span.lo s.hi ≡ true = not-false (is_below span.lo s.hi) (subst (λ del. is_span_below span.lo del ≡ false) (here d) (parted.1 at d (omega arith) within)) in
                   let begins : is_below s.lo span.hi ≡ false = second_is_false (is_below span.lo s.hi) (is_below s.lo span.hi) (sym (overlap-ends span s) ∙ e) ends in
                   let rises : is_below s.lo s.hi ≡ true = (subst IsSpan (here d) (are at d within)).rises in
                   let past : is_below s.hi (get_or dels k d).lo ≡ true = subst (λ del. is_below del.hi (get_or dels k d).lo ≡ true) (here d) (spans_apart dels are apart at k d after h) in

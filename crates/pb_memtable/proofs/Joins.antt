@@ -3,12 +3,10 @@ use Rattle.std.proofs.Common.{◌≡◌, ℕ, ◌+◌, ◌-◌, ◌<◌, ◌≤�
 use Rattle.std.specs.Prelude.{All, not}
 use Rattle.std.specs.List.{between}
 use Rattle.std.specs.List.Sorted.{IsPartitionedBy, IsPartitionPoint}
-use Rattle.std.proofs.lemmas.Bool.{cases_lt}
+use Rattle.std.proofs.lemmas.Bool.{cases_lt, not-true, not-false}
 use Rattle.std.proofs.lemmas.List.{get_or-drop, get_or-take, length-take-le, length-drop, get_or_default}
 use Rattle.std.proofs.lemmas.List.Edits.{split_between, get_or-between, length-between}
 use Rattle.std.proofs.lemmas.List.Elements.{All-head, All-tail}
-use Rattle.pb_rows.proofs.Tests.{not_so}
-use Rattle.pb_memtable.proofs.Bits.{so_not}
 use Rattle.pb_keys.specs.Order.{is_below, lesser, greater}
 use Rattle.pb_keys.specs.Span.{KeySpan, IsSpan, joined}
 use Rattle.pb_keys.proofs.OrderFacts.{below_itself, below_one_way, below_chain, upto_chain}
@@ -136,7 +134,7 @@ begins_are_parted spans bytes are apart i j d h k below =
           let s = get_or spans i d in let t = get_or spans j d in
           let f = spans_follow spans are apart i j d before k in
           let less : is_below s.lo t.lo ≡ true = below_chain s.lo s.hi t.lo (are i d (omega arith)).rises f.apart in
-          ap not (upto_chain s.lo t.lo bytes (below_one_way s.lo t.lo less) (not_so (is_below bytes t.lo) below))
+          ap not (upto_chain s.lo t.lo bytes (below_one_way s.lo t.lo less) (not-true (is_below bytes t.lo) below))
       | inr past ↦ let same : j ≡ i = omega arith in subst (λ n. not (is_below bytes (get_or spans n d).lo) ≡ true) same below
     ]
 
@@ -146,7 +144,7 @@ touched_between span dels from to is are from_within to_within starts ends = rec
     | inl below ↦
         let one = get_or dels to span in
         let low : is_below one.hi span.lo ≡ true = starts.0 to span (omega arith) below in
-        let high : is_below span.hi one.lo ≡ true = so_not (is_below span.hi one.lo) (ends.1 to span (omega arith) (omega arith)) in
+        let high : is_below span.hi one.lo ≡ true = not-false (is_below span.hi one.lo) (ends.1 to span (omega arith) (omega arith)) in
         let around : is_below one.hi one.lo ≡ true = below_chain one.hi span.lo one.lo low (below_chain span.lo span.hi one.lo is.rises high) in
         let other : is_below one.hi one.lo ≡ false = below_one_way one.lo one.hi (are to span (omega arith)).rises in
         absurd (cc)
@@ -154,8 +152,8 @@ touched_between span dels from to is are from_within to_within starts ends = rec
   ];
   within = to_within;
   front = λ k d h. starts.0 k d (omega arith) h;
-  middle = λ k d h g. record { front = starts.1 k d h (omega arith); back = not_so (is_below span.hi (get_or dels k d).lo) (ends.0 k d (omega arith) g) };
-  back = λ k d h within. so_not (is_below span.hi (get_or dels k d).lo) (ends.1 k d h within);
+  middle = λ k d h g. record { front = starts.1 k d h (omega arith); back = not-true (is_below span.hi (get_or dels k d).lo) (ends.0 k d (omega arith) g) };
+  back = λ k d h within. not-false (is_below span.hi (get_or dels k d).lo) (ends.1 k d h within);
 }
 
 pub apart_between : (dels : List KeySpan) (from to : ℕ) → to ≤ length dels → AreApart dels → AreApart (between from to dels)

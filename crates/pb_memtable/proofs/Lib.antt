@@ -7,3 +7,4 @@ pub mod KeptLaws
 pub mod Looking
 pub mod Placing
 pub mod SearchLaws
+pub mod HeldParts

@@ -11,7 +11,7 @@ use Rattle.std.proofs.lemmas.Bool.{cases_lt}
 use Rattle.std.proofs.lemmas.List.{map-append, take-map, drop-map, map-set, set_split, take-append-drop, drop_more, get_or-drop, get_or-take, length-take-le, length-drop, drop_all}
 use Rattle.std.proofs.lemmas.List.Edits.{split_between, get_or-between, length-between}
 use Rattle.std.proofs.lemmas.List.Elements.{All-cons, All-head, All-tail, All-weaker, All-append, All-take, All-drop, All-set, filter-append}
-use Rattle.pb_rows.proofs.Tests.{or_false}
+use Rattle.pb_keys.proofs.Tests.{or_false}
 use Rattle.pb_keys.specs.Key.{key_cmp, prefix_of, suffix_of, suffix_start}
 use Rattle.pb_keys.specs.KeyLaws.{key_cmp_total, key_cmp_exact}
 use Rattle.pb_keys.specs.Order.{bytes_cmp, is_below}
@@ -19,8 +19,7 @@ use Rattle.pb_keys.specs.Span.{KeySpan, IsSpan, IsEnd, holds_key}
 use Rattle.pb_keys.proofs.KeyFacts.{suffix_start_is}
 use Rattle.pb_keys.proofs.OrderFacts.{below_chain}
 use Rattle.pb_keys.proofs.SpanFacts.{holds_key-ends}
-use Rattle.pb_memtable.specs.Commands.{row_of}
-use Rattle.pb_memtable.specs.Search.{IsPlaceOf, IsRowPlace, IsRow, change_at, rows_at}
+use Rattle.pb_memtable.specs.Search.{IsPlaceOf, IsRowPlace, IsRow, change_at, row_of_change, rows_at}
 use Rattle.pb_memtable.proofs.IndexLaws.{change_new, place_more, place_new, rows_more}
 use Rattle.pb_rangedel.specs.Merging.{uncovered}
 use Rattle.pb_rows.proofs.NormalSpans.{end_is_prefix}
@@ -28,7 +27,7 @@ use Rattle.pb_rangedel.proofs.RowMerging.{front_row, drop_follows}
 use Rattle.pb_rows.proofs.RowsOver.{turned_greater, turned_less}
 use Rattle.pb_rows.specs.Layer.{KeyRow, Rise}
 use Rattle.pb_rows.specs.Over.{with_row}
-use Rattle.pb_wal.specs.declared.entry.Entry.{Entry}
+use Rattle.pb_wal.specs.declared.entry.Change.{Change}
 
 -- ---- a row put among others
 
@@ -80,32 +79,32 @@ with_row-set row rows at d place within same =
 
 -- ---- the same among places
 
-rows_of_more : (entries : List Entry) (entry : Entry) (front : List ℕ) (rest : List ℕ) → All (IsRowPlace entries) front → All (IsRowPlace entries) rest → rows_at (entries ++ entry ∷ []) (front ++ length entries ∷ rest) ≡ rows_at entries front ++ row_of entry.change ∷ rows_at entries rest
-rows_of_more entries entry front rest in_front in_rest =
-    map-append (λ place. row_of (change_at (entries ++ entry ∷ []) place)) front (length entries ∷ rest)
-    ∙ (λ i. rows_more entries entry front in_front i ++ row_of (change_new entries entry i) ∷ rows_more entries entry rest in_rest i)
+rows_of_more : (changes : List Change) (change : Change) (front : List ℕ) (rest : List ℕ) → All (IsRowPlace changes) front → All (IsRowPlace changes) rest → rows_at (changes ++ change ∷ []) (front ++ length changes ∷ rest) ≡ rows_at changes front ++ row_of_change change ∷ rows_at changes rest
+rows_of_more changes change front rest in_front in_rest =
+    map-append (λ place. row_of_change (change_at (changes ++ change ∷ []) place)) front (length changes ∷ rest)
+    ∙ (λ i. rows_more changes change front in_front i ++ row_of_change (change_new changes change i) ∷ rows_more changes change rest in_rest i)
 
-pub rows-inserted : (entries : List Entry) (entry : Entry) (places : List ℕ) (at : ℕ) → All (IsRowPlace entries) places → rows_at (entries ++ entry ∷ []) (insert places at (length entries)) ≡ insert (rows_at entries places) at (row_of entry.change)
-rows-inserted entries entry places at are =
-    let f = λ (place : ℕ). row_of (change_at entries place) in
-    rows_of_more entries entry (take at places) (drop at places) (All-take (IsRowPlace entries) at places are) (All-drop (IsRowPlace entries) at places are)
-    ∙ (λ i. sym (take-map f at places) i ++ row_of entry.change ∷ sym (drop-map f at places) i)
+pub rows-inserted : (changes : List Change) (change : Change) (places : List ℕ) (at : ℕ) → All (IsRowPlace changes) places → rows_at (changes ++ change ∷ []) (insert places at (length changes)) ≡ insert (rows_at changes places) at (row_of_change change)
+rows-inserted changes change places at are =
+    let f = λ (place : ℕ). row_of_change (change_at changes place) in
+    rows_of_more changes change (take at places) (drop at places) (All-take (IsRowPlace changes) at places are) (All-drop (IsRowPlace changes) at places are)
+    ∙ (λ i. sym (take-map f at places) i ++ row_of_change change ∷ sym (drop-map f at places) i)
 
-pub rows-set : (entries : List Entry) (entry : Entry) (places : List ℕ) (at : ℕ) → All (IsRowPlace entries) places → at < length places → rows_at (entries ++ entry ∷ []) (set places at (length entries)) ≡ set (rows_at entries places) at (row_of entry.change)
-rows-set entries entry places at are within =
-    map-set (λ place. row_of (change_at (entries ++ entry ∷ []) place)) places at (length entries)
-    ∙ (λ i. set (rows_more entries entry places are i) at (row_of (change_new entries entry i)))
+pub rows-set : (changes : List Change) (change : Change) (places : List ℕ) (at : ℕ) → All (IsRowPlace changes) places → at < length places → rows_at (changes ++ change ∷ []) (set places at (length changes)) ≡ set (rows_at changes places) at (row_of_change change)
+rows-set changes change places at are within =
+    map-set (λ place. row_of_change (change_at (changes ++ change ∷ []) place)) places at (length changes)
+    ∙ (λ i. set (rows_more changes change places are i) at (row_of_change (change_new changes change i)))
 
-pub places-inserted : (entries : List Entry) (entry : Entry) (places : List ℕ) (at : ℕ) → IsRow entry.change → All (IsRowPlace entries) places → All (IsRowPlace (entries ++ entry ∷ [])) (insert places at (length entries))
-places-inserted entries entry places at is are =
-    let P = IsRowPlace (entries ++ entry ∷ []) in
-    let all = All-weaker (IsRowPlace entries) P (place_more entries entry) places are in
-    All-append P (take at places) (length entries ∷ drop at places) (All-take P at places all) (All-cons P (length entries) (drop at places) (place_new entries entry is) (All-drop P at places all))
+pub places-inserted : (changes : List Change) (change : Change) (places : List ℕ) (at : ℕ) → IsRow change → All (IsRowPlace changes) places → All (IsRowPlace (changes ++ change ∷ [])) (insert places at (length changes))
+places-inserted changes change places at is are =
+    let P = IsRowPlace (changes ++ change ∷ []) in
+    let all = All-weaker (IsRowPlace changes) P (place_more changes change) places are in
+    All-append P (take at places) (length changes ∷ drop at places) (All-take P at places all) (All-cons P (length changes) (drop at places) (place_new changes change is) (All-drop P at places all))
 
-pub places-set : (entries : List Entry) (entry : Entry) (places : List ℕ) (at : ℕ) → IsRow entry.change → All (IsRowPlace entries) places → All (IsRowPlace (entries ++ entry ∷ [])) (set places at (length entries))
-places-set entries entry places at is are =
-    let P = IsRowPlace (entries ++ entry ∷ []) in
-    All-set P places at (length entries) (place_new entries entry is) (All-weaker (IsRowPlace entries) P (place_more entries entry) places are)
+pub places-set : (changes : List Change) (change : Change) (places : List ℕ) (at : ℕ) → IsRow change → All (IsRowPlace changes) places → All (IsRowPlace (changes ++ change ∷ [])) (set places at (length changes))
+places-set changes change places at is are =
+    let P = IsRowPlace (changes ++ change ∷ []) in
+    All-set P places at (length changes) (place_new changes change is) (All-weaker (IsRowPlace changes) P (place_more changes change) places are)
 
 -- ---- the rows that a span holds
 
@@ -137,11 +136,11 @@ prefix_below rows bytes at is place k d h = sym (below_end (get_or rows k d).key
 pub prefix_not_below : (rows : List KeyRow) (bytes : List ℕ) (at : ℕ) → IsEnd bytes → IsPlaceOf bytes rows at → (k : ℕ) (d : KeyRow) → at ≤ k → k < length rows → is_below (prefix_of (get_or rows k d).key) bytes ≡ false
 prefix_not_below rows bytes at is place k d h within = sym (below_end (get_or rows k d).key bytes is) ∙ place.parted.1 k d h within
 
-filter_all : (p : KeyRow → Bool) (rows : List KeyRow) → All (λ r. p r ≡ true) rows → filter p rows ≡ rows
+pub filter_all : (p : KeyRow → Bool) (rows : List KeyRow) → All (λ r. p r ≡ true) rows → filter p rows ≡ rows
 filter_all p [] all = refl
 filter_all p (r ∷ rows) all = (λ i. cond (All-head (λ s. p s ≡ true) r rows all i) (r ∷ filter p rows) (filter p rows)) ∙ ap (λ rs. r ∷ rs) (filter_all p rows (All-tail (λ s. p s ≡ true) r rows all))
 
-filter_none : (p : KeyRow → Bool) (rows : List KeyRow) → All (λ r. p r ≡ false) rows → filter p rows ≡ []
+pub filter_none : (p : KeyRow → Bool) (rows : List KeyRow) → All (λ r. p r ≡ false) rows → filter p rows ≡ []
 filter_none p [] all = refl
 filter_none p (r ∷ rows) all = (λ i. cond (All-head (λ s. p s ≡ false) r rows all i) (r ∷ filter p rows) (filter p rows)) ∙ filter_none p rows (All-tail (λ s. p s ≡ false) r rows all)
 
@@ -198,9 +197,9 @@ ends_rise rows span from to is starts ends =
     ]
   where
     row_of_nothing : KeyRow
-    row_of_nothing = row_of (change_at [] 0)
+    row_of_nothing = row_of_change (change_at [] 0)
 
-pub rows-dropped : (entries : List Entry) (places : List ℕ) (from to : ℕ) → rows_at entries (take from places ++ drop to places) ≡ take from (rows_at entries places) ++ drop to (rows_at entries places)
-rows-dropped entries places from to =
-    let f = λ (place : ℕ). row_of (change_at entries place) in
+pub rows-dropped : (changes : List Change) (places : List ℕ) (from to : ℕ) → rows_at changes (take from places ++ drop to places) ≡ take from (rows_at changes places) ++ drop to (rows_at changes places)
+rows-dropped changes places from to =
+    let f = λ (place : ℕ). row_of_change (change_at changes place) in
     map-append f (take from places) (drop to places) ∙ (λ i. sym (take-map f from places) i ++ sym (drop-map f to places) i)

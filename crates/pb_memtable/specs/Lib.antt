@@ -1,5 +1,5 @@
-pub mod Commands
 pub mod View
 pub mod Search
 pub mod Joining
 pub mod Index
+pub mod Codes

@@ -1,10 +1,12 @@
 -- What contracts see of a memtable: its commands, and for which command there is room.
-use Rattle.std.specs.Prelude.{◌≡◌, List}
+use Rattle.std.specs.Prelude.{◌≡◌, ℕ, ◌+◌, List, [], ◌∷◌, map}
 use Rattle.pb_keys.specs.Span.{KeySpan}
-use Rattle.pb_wal.specs.Changes.{HasShortValue}
+use Rattle.pb_rows.specs.Changing.{Changing}
+use Rattle.pb_rows.specs.ChangingLayers.{layer_of_changes}
+use Rattle.pb_rows.specs.Layer.{KeyLayer}
+use Rattle.pb_wal.specs.Changes.{HasShortValue, changing_of, length_of_changing}
 use Rattle.pb_wal.specs.declared.entry.Change.{Change}
 use Rattle.pb_wal.specs.declared.entry.Change.TheVariants.{Set, Del, DelRange}
-use Rattle.pb_wal.specs.declared.entry.Entry.{Entry}
 
 -- for no command, for any set or del, or for the delrange of this span
 pub data RoomFor : Type 0 where
@@ -13,11 +15,24 @@ pub data RoomFor : Type 0 where
   ForSpan : (span : KeySpan) → RoomFor
 
 pub record Commands : Type 0 where
-  pub entries : List Entry
+  pub changes : List Changing
   pub room : RoomFor
 
-abbrev pub commands_of : List Entry → RoomFor → Commands
-commands_of entries room = record { entries = entries; room = room }
+abbrev pub commands_of : List Changing → RoomFor → Commands
+commands_of changes room = record { changes = changes; room = room }
+
+-- what commands do to a map
+abbrev pub all_changing : List Change → List Changing
+all_changing changes = map changing_of changes
+
+-- the layer that does the same
+abbrev pub layer_of_all : List Change → KeyLayer
+layer_of_all changes = layer_of_changes (all_changing changes)
+
+-- the lengths of all commands, also of those that later ones overwrote or covered
+abbrev pub size_of : List Changing → ℕ
+size_of [] = 0
+size_of (change ∷ changes) = length_of_changing change + size_of changes
 
 abbrev pub room_for : Change → RoomFor
 room_for (Set key value) = ForRow

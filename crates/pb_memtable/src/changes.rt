@@ -1,20 +1,17 @@
-ghost use Rattle.std.specs.Prelude.{◌≡◌, ◌≤◌};
-ghost use Rattle.pb_memtable.specs.Commands.{row_of, length_of};
-ghost use Rattle.pb_memtable.specs.Search.{IsRowPlace, change_at};
+ghost use Rattle.std.specs.Prelude.{◌≡◌, Some};
+ghost use Rattle.pb_memtable.specs.Search.{IsRowPlace, change_at, row_of_change};
 ghost use Rattle.pb_rows.specs.Found.{as_verdict};
-ghost use Rattle.std.specs.Prelude.{Some};
-ghost use Rattle.pb_wal.specs.Changes.{HasShortValue};
 
 use pb_keys::Key;
 use pb_rows::Found;
-use pb_wal::{Change, Entry};
+use pb_wal::Change;
 
 /// The key of the set or del at this place.
-pub(crate) fn key_at<'a>(entries: &'a [Entry], place: usize) -> &'a Key
-    requires { IsRowPlace entries.now place }
-    ensures { result.now ≡ (row_of (change_at entries.now place)).key }
+pub(crate) fn key_at<'a>(changes: &'a [Change], place: usize) -> &'a Key
+    requires { IsRowPlace changes.now place }
+    ensures { result.now ≡ (row_of_change (change_at changes.now place)).key }
 {
-    match &entries[place].change {
+    match &changes[place] {
         Change::Set(key, _) => key,
         Change::Del(key) => key,
         Change::DelRange(_) => unreachable!(),
@@ -22,26 +19,13 @@ pub(crate) fn key_at<'a>(entries: &'a [Entry], place: usize) -> &'a Key
 }
 
 /// What the set or del at this place has of its key.
-pub(crate) fn found_at<'a>(entries: &'a [Entry], place: usize) -> Found<'a>
-    requires { IsRowPlace entries.now place }
-    ensures { as_verdict result ≡ Some (row_of (change_at entries.now place)).value }
+pub(crate) fn found_at<'a>(changes: &'a [Change], place: usize) -> Found<'a>
+    requires { IsRowPlace changes.now place }
+    ensures { as_verdict result ≡ Some (row_of_change (change_at changes.now place)).value }
 {
-    match &entries[place].change {
+    match &changes[place] {
         Change::Set(_, value) => Found::Value(value.as_slice()),
         Change::Del(_) => Found::Deleted,
         Change::DelRange(_) => unreachable!(),
-    }
-}
-
-/// The length of the command's key and value, or of its ends.
-pub(crate) fn length_of(change: &Change) -> u64
-    requires { HasShortValue change.now }
-    ensures length { result ≡ length_of change.now }
-    ensures low { result ≤ 66560 }
-{
-    match change {
-        Change::Set(key, value) => { key.as_bytes().len() as u64 + value.as_slice().len() as u64 }
-        Change::Del(key) => key.as_bytes().len() as u64,
-        Change::DelRange(span) => span.lo().len() as u64 + span.hi().len() as u64,
     }
 }

@@ -1,20 +1,20 @@
 //! What holds of all commands. Each function does nothing: its contract is a law of the definitions that the contracts of
 //! this crate cite.
-ghost use Rattle.std.specs.Prelude.{◌≡◌, List, [], ◌∷◌, ◌++◌};
-ghost use Rattle.pb_keys.specs.Map.{Map};
-ghost use Rattle.pb_memtable.specs.Commands.{layer_of_commands, layer_of_change, after_all};
+ghost use Rattle.std.specs.Prelude.{◌≡◌, List, false, Some};
+ghost use Rattle.pb_keys.specs.Map.{Map, without};
+ghost use Rattle.pb_keys.specs.Span.{KeySpan};
 ghost use Rattle.pb_rows.specs.Applied.{applied};
-ghost use Rattle.pb_rows.specs.Layer.{layer_of};
-ghost use Rattle.pb_rows.specs.Over.{over};
-ghost use Rattle.pb_wal.specs.declared.entry.Entry.{Entry};
+ghost use Rattle.pb_rows.specs.Changing.{Changing, changed};
+ghost use Rattle.pb_rows.specs.ChangingLayers.{layer_of_changes};
+ghost use Rattle.pb_rows.specs.Hull.{hull_of};
+ghost use Rattle.pb_rows.specs.Layer.{KeyLayer};
+ghost use Rattle.pb_rows.specs.Touching.{touches};
 
-/// The layer of commands, applied to a map, does what the commands do in turn.
-pub fn layer_does_all()
-    ensures { (entries : List Entry) (m : Map) → applied (layer_of_commands entries) m ≡ after_all m entries }
-{}
-
-/// A command that is added comes over the layer of those before it.
-pub fn last_is_newest()
-    ensures none { layer_of_commands [] ≡ layer_of [] [] }
-    ensures more { (entries : List Entry) (entry : Entry) → layer_of_commands (entries ++ entry ∷ []) ≡ over (layer_of_change entry.change) (layer_of_commands entries) }
+/// Commands that touch nothing within a span may be done before the span is emptied or after, and those that touch nothing
+/// within another layer's hull before that layer is applied or after.
+pub fn untouched_commands_commute()
+    ensures span { (changes : List Changing) (m : Map) (span : KeySpan) → touches (layer_of_changes changes) span ≡ false
+        → changed (without m span) changes ≡ without (changed m changes) span }
+    ensures layer { (changes : List Changing) (m : Map) (b : KeyLayer) (hull : KeySpan) → hull_of b ≡ Some hull
+        → touches (layer_of_changes changes) hull ≡ false → changed (applied b m) changes ≡ applied b (changed m changes) }
 {}

@@ -5,6 +5,7 @@ mod adding;
 mod changes;
 mod copies;
 pub mod laws;
+mod layers;
 mod memtable;
 mod ranges;
 mod ready;

@@ -3,4 +3,4 @@ use Rattle.pb_memtable.specs.Search.{rows_at}
 use Rattle.pb_memtable.proofs.copies.rows_of.Given as goal
 
 abbrev pub invariant-loop-place : goal.invariant-loop-place
-invariant-loop-place l = l.rows.items ≡ rows_at l.entries (take l.place-index l.places)
+invariant-loop-place l = l.rows.items ≡ rows_at l.changes (take l.place-index l.places)

@@ -8,7 +8,7 @@ abbrev pub invariant-loop-lo : goal.invariant-loop-lo
 invariant-loop-lo l = record {
   rises : l.lo ≤ l.hi;
   within : l.hi ≤ length l.places;
-  between : (key : List ℕ) → l.prefix ≡ prefix_of key → l.suffix ≡ suffix_of key → IsBetween key (rows_at l.entries l.places) l.lo l.hi;
+  between : (key : List ℕ) → l.prefix ≡ prefix_of key → l.suffix ≡ suffix_of key → IsBetween key (rows_at l.changes l.places) l.lo l.hi;
 }
 
 abbrev pub decreases-loop-lo : goal.decreases-loop-lo

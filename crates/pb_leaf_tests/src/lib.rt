@@ -1,4 +1,4 @@
-//! Tests of the lowest crates, a file for each subject, over what they make public.
+//! Tests of the lowest crates, a file for each subject, over what they make public. Those of layers stand in pb_layer_tests.
 #![tactic(auto)]
 
 #[cfg(test)]
@@ -6,18 +6,14 @@ mod bytes;
 #[cfg(test)]
 mod counts;
 #[cfg(test)]
-mod deletions;
-#[cfg(test)]
 mod keys;
-#[cfg(test)]
-mod layering;
-#[cfg(test)]
-mod layers;
 #[cfg(test)]
 mod names;
 #[cfg(test)]
-mod relations;
+mod payloads;
 #[cfg(test)]
 mod stopped;
 #[cfg(test)]
 mod trace;
+#[cfg(test)]
+mod worlds;

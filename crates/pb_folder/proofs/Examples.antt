@@ -14,7 +14,7 @@ use Rattle.pb_names.specs.declared.file_kind.FileKind.TheVariants.{Manifest, Cat
 use Rattle.pb_payloads.specs.Current.{Pointer, SaysCurrent}
 use Rattle.pb_payloads.specs.Catalogue.{SaysCatalogue, with_id}
 use Rattle.pb_payloads.specs.Logged.{Logged}
-use Rattle.pb_payloads.specs.Log.{LogEntry, IsEntry, SaysLog}
+use Rattle.pb_payloads.specs.Log.{LogEntry, IsEntry, SaysLog, waiting_in}
 use Rattle.pb_payloads.proofs.CataloguedLaws as catalogued
 use Rattle.pb_payloads.proofs.LoggedLaws as logged
 use Rattle.pb_gate_log.specs.Payloads.{payloads, payloads_of}
@@ -28,7 +28,7 @@ use Rattle.pb_table.specs.Spells.{Spells}
 use Rattle.pb_version.specs.Edited.{edited}
 use Rattle.pb_version.specs.Rules.{first_broken}
 use Rattle.pb_version.specs.Meaning.{map_of}
-use Rattle.pb_version.specs.Examples.{first_edit, new_store, flush_edit, flushed_store, flushed_table}
+use Rattle.pb_version.specs.Examples.{first_edit, new_store, first_flush, flushed_store, flushed_table}
 use Rattle.pb_version.specs.SaysVersion.{SaysVersion}
 use Rattle.pb_folder.specs.Said.{Said, Says}
 use Rattle.pb_folder.specs.Held.{IsStored, IsMapped}
@@ -57,7 +57,7 @@ log_file log = refl
 
 -- ---- what they say
 
-first_pointer : Pointer
+unfoldable pub first_pointer : Pointer
 first_pointer = record { manifest = 1; catalogue = 2 }
 
 current_payloads : payloads first_current ≡ (1 ∷ 2 ∷ []) ∷ []
@@ -72,8 +72,8 @@ manifest_payloads : payloads first_manifest ≡ (1 ∷ 0 ∷ 2 ∷ 64 ∷ 3 ∷ 
 unfolding payloads payloads_of number_of
 manifest_payloads = refl
 
-no_items : {X : Type 0} (kind : ℕ) (IsItem : X → Type 0) (is_below : X → X → Bool) → AreItems kind IsItem is_below []
-no_items kind IsItem is_below = record { counts = λ some. absurd (some refl); each = tt; ascend = tt }
+no_items : {X : Type 0} (IsItem : X → Type 0) (is_below : X → X → Bool) → AreItems IsItem is_below []
+no_items IsItem is_below = record { each = tt; ascend = tt }
 
 is_first_edit : IsEdit first_edit
 unfolding edit_spelling varint groups
@@ -84,11 +84,11 @@ is_first_edit = record {
   log = omega arith;
   flushed = omega arith;
   format = omega arith;
-  deleted = no_items _ _ _;
-  physical = no_items _ _ _;
-  virtuals = no_items _ _ _;
-  created = no_items _ _ _;
-  removed = no_items _ _ _;
+  deleted = no_items _ _;
+  physical = no_items _ _;
+  virtuals = no_items _ _;
+  created = no_items _ _;
+  removed = no_items _ _;
 }
 
 says_version : SaysVersion ((1 ∷ 0 ∷ 2 ∷ 64 ∷ 3 ∷ 3 ∷ 4 ∷ 0 ∷ 5 ∷ 1 ∷ []) ∷ []) new_store
@@ -108,7 +108,7 @@ says_id : SaysCatalogue ((1 ∷ 1 ∷ []) ∷ []) (with_id 1 [])
 unfolding varint groups
 says_id = catalogued.first_catalogue 1 (omega arith)
 
-empty_payloads : payloads empty_log ≡ []
+pub empty_payloads : payloads empty_log ≡ []
 unfolding payloads payloads_of
 empty_payloads = refl
 
@@ -129,23 +129,25 @@ says_set = record { spelled = refl; in_form = All-cons IsEntry set_a [] is_set (
 
 -- ---- what they stand for
 
-said_with : List LogEntry → Said
+unfoldable pub said_with : List LogEntry → Said
 said_with log = record { pointer = first_pointer; version = new_store; entries = []; log = log }
 
-says_with : (bytes : List ℕ) (list : List (List ℕ)) (log : List LogEntry) → payloads bytes ≡ list → SaysLog 0 list log
+pub says_with : (bytes : List ℕ) (list : List (List ℕ)) (log : List LogEntry) → payloads bytes ≡ list → SaysLog 0 list log → waiting_in log ≡ []
     → Says (folder_of (store_with_log bytes)) 1 (said_with log)
 unfolding said_with first_pointer
-says_with bytes list log are says = record {
+says_with bytes list log are says waits = record {
   current = has_payloads (folder_of (store_with_log bytes)) current_name first_current _ (λ list. SaysCurrent list first_pointer) (current_file bytes) current_payloads says_pointer;
   manifest = has_payloads (folder_of (store_with_log bytes)) (file_name Manifest 1) first_manifest _ (λ list. SaysVersion list new_store) (manifest_file bytes) manifest_payloads says_version;
   catalogue = has_payloads (folder_of (store_with_log bytes)) (file_name Catalogue 2) first_catalogue _ (λ list. SaysCatalogue list (with_id 1 [])) (catalogue_file bytes) catalogue_payloads says_id;
   log = has_payloads (folder_of (store_with_log bytes)) (file_name Log 3) bytes list (λ list. SaysLog 0 list log) (log_file bytes) are says;
   reserved = omega arith;
   entered = All-nil _;
+  bare = refl;
+  waits = waits;
 }
 
 pub an_empty_folder : (objects : Objects) (id : ℕ) → StandsFor (folder_of []) objects id 0 empty
-an_empty_folder objects id = inl (tt, refl, refl)
+an_empty_folder objects id = inl (refl, refl, refl)
 
 pub a_new_store : (objects : Objects) → StandsFor (folder_of (store_with_log empty_log)) objects 1 0 empty
 unfolding said_with map_of
@@ -153,8 +155,8 @@ a_new_store objects = inr (
     record {
       said = said_with [];
       layers = λ number. layer_of [] [];
-      says = says_with empty_log [] [] empty_payloads (logged.empty_log 0);
-      holds = record { stored = All-nil _; mapped = All-nil _; waiting = All-nil _ };
+      says = says_with empty_log [] [] empty_payloads (logged.empty_log 0) refl;
+      holds = record { tables = record { stored = All-nil _; mapped = All-nil _ }; waiting = All-nil _ };
       count = refl;
       pairs = refl;
     }
@@ -166,8 +168,8 @@ one_set objects = inr (
     record {
       said = said_with (set_a ∷ []);
       layers = λ number. layer_of [] [];
-      says = says_with log_of_a_set ((1 ∷ 1 ∷ 1 ∷ 97 ∷ 1 ∷ 49 ∷ []) ∷ []) (set_a ∷ []) set_payloads says_set;
-      holds = record { stored = All-nil _; mapped = All-nil _; waiting = All-nil _ };
+      says = says_with log_of_a_set ((1 ∷ 1 ∷ 1 ∷ 97 ∷ 1 ∷ 49 ∷ []) ∷ []) (set_a ∷ []) set_payloads says_set refl;
+      holds = record { tables = record { stored = All-nil _; mapped = All-nil _ }; waiting = All-nil _ };
       count = refl;
       pairs = refl;
     }
@@ -179,7 +181,7 @@ flushed_payloads : payloads flushed_manifest ≡ (1 ∷ 0 ∷ 2 ∷ 64 ∷ 3 ∷
 unfolding payloads payloads_of number_of
 flushed_payloads = refl
 
-is_flush_edit : IsEdit flush_edit
+is_flush_edit : IsEdit first_flush
 unfolding edit_spelling varint groups field
 is_flush_edit = record {
   some = λ e. cc;
@@ -188,23 +190,22 @@ is_flush_edit = record {
   log = omega arith;
   flushed = omega arith;
   format = tt;
-  deleted = no_items _ _ _;
+  deleted = no_items _ _;
   physical = record {
-    counts = λ some. omega arith;
     each = (record { level = omega arith; number = omega arith; rank = omega arith; size = omega arith; lo = omega arith; hi = omega arith }, tt);
     ascend = tt;
   };
-  virtuals = no_items _ _ _;
-  created = no_items _ _ _;
-  removed = no_items _ _ _;
+  virtuals = no_items _ _;
+  created = no_items _ _;
+  removed = no_items _ _;
 }
 
 says_flushed : SaysVersion ((1 ∷ 0 ∷ 2 ∷ 64 ∷ 3 ∷ 3 ∷ 4 ∷ 0 ∷ 5 ∷ 1 ∷ []) ∷ (1 ∷ 2 ∷ 3 ∷ 5 ∷ 4 ∷ 2 ∷ 7 ∷ 0 ∷ 4 ∷ 4 ∷ 8 ∷ 1 ∷ 97 ∷ 1 ∷ 98 ∷ []) ∷ []) flushed_store
 unfolding edit_spelling varint groups field first_broken edited
 says_flushed = record {
-  edits = first_edit ∷ flush_edit ∷ [];
+  edits = first_edit ∷ first_flush ∷ [];
   spelled = refl;
-  in_form = All-cons IsEdit first_edit (flush_edit ∷ []) is_first_edit (All-cons IsEdit flush_edit [] is_flush_edit (All-nil IsEdit));
+  in_form = All-cons IsEdit first_edit (first_flush ∷ []) is_first_edit (All-cons IsEdit first_flush [] is_flush_edit (All-nil IsEdit));
   folds = record { some = λ e. cc; folds = (refl, (refl, refl)) };
 }
 
@@ -236,10 +237,10 @@ spells_a = record {
   same = refl;
 }
 
-flushed_said : Said
+unfoldable pub flushed_said : Said
 flushed_said = record { pointer = first_pointer; version = flushed_store; entries = []; log = [] }
 
-says_flushed_all : Says (folder_of flushed_files) 1 flushed_said
+pub says_flushed_all : Says (folder_of flushed_files) 1 flushed_said
 unfolding flushed_said first_pointer current_name file_name digits
 says_flushed_all = record {
   current = has_payloads (folder_of flushed_files) current_name first_current _ (λ list. SaysCurrent list first_pointer) refl current_payloads says_pointer;
@@ -248,6 +249,8 @@ says_flushed_all = record {
   log = has_payloads (folder_of flushed_files) (file_name Log 5) empty_log [] (λ list. SaysLog 2 list []) refl empty_payloads (logged.empty_log 2);
   reserved = omega arith;
   entered = All-nil _;
+  bare = refl;
+  waits = refl;
 }
 
 a_is_stored : (objects : Objects) → IsStored (folder_of flushed_files) objects [] (λ number. layer_of_a) (record { number = 4; size = 8 })
@@ -274,8 +277,10 @@ a_flush objects = inr (
       layers = λ number. layer_of_a;
       says = says_flushed_all;
       holds = record {
-        stored = All-cons (IsStored (folder_of flushed_files) objects [] (λ number. layer_of_a)) (record { number = 4; size = 8 }) [] (a_is_stored objects) (All-nil _);
-        mapped = All-cons (IsMapped (λ number. layer_of_a)) flushed_table [] a_is_mapped (All-nil _);
+        tables = record {
+          stored = All-cons (IsStored (folder_of flushed_files) objects [] (λ number. layer_of_a)) (record { number = 4; size = 8 }) [] (a_is_stored objects) (All-nil _);
+          mapped = All-cons (IsMapped (λ number. layer_of_a)) flushed_table [] a_is_mapped (All-nil _);
+        };
         waiting = All-nil _;
       };
       count = refl;

@@ -1,6 +1,6 @@
 -- A folder stands for one count and one map.
 use Rattle.std.proofs.Common.{◌≡◌, ℕ, List, [], ◌∷◌, Option, Some, None, map, reverse, refl, sym, ap, ◌∙◌, subst, inl, inr}
-use Rattle.std.specs.Prelude.{IsSomeAnd, IfSome}
+use Rattle.std.specs.Prelude.{IsSomeAnd}
 use Rattle.std.specs.List.{All, last_or}
 use Rattle.std.specs.FinMap.{empty}
 use Rattle.pb_devices.specs.Contents.{Folder}
@@ -15,15 +15,18 @@ use Rattle.pb_rows.specs.Viewed.{viewed}
 use Rattle.pb_payloads.specs.Current.{SaysCurrent, pointer_spelling}
 use Rattle.pb_payloads.specs.Logged.{Logged}
 use Rattle.pb_payloads.specs.Logged.Logged.{Set, Del, DelRange, Ingest}
-use Rattle.pb_payloads.specs.Log.{LogEntry}
-use Rattle.pb_gate_log.specs.Payloads.{payloads}
+use Rattle.pb_payloads.specs.Log.{LogEntry, waiting_in, waiting_of}
+use Rattle.pb_payloads.specs.Places.{bytes_of}
+use Rattle.pb_gate_log.specs.NewFolder.{IsNew}
+use Rattle.pb_gate_log.specs.Payloads.{payloads, payloads_in}
 use Rattle.pb_table.proofs.TableLemmas.{one_layer}
 use Rattle.pb_version.specs.Version.{TableView, VersionView, all_tables}
 use Rattle.pb_version.specs.Meaning.{map_of, layer_of_table}
+use Rattle.pb_version.specs.Stored.{backing_of, stored_in}
 use Rattle.pb_folder.specs.Said.{Said, Says}
-use Rattle.pb_folder.specs.Held.{IsTableOf, IsStored, IsLocal, Holds, backing_of, bytes_of, stored_in, waiting_of, waiting_in}
+use Rattle.pb_folder.specs.Held.{IsTableOf, IsStored, IsLocal, Holds}
 use Rattle.pb_folder.specs.Meaning.{changing_of, after_log, said_count, said_map}
-use Rattle.pb_folder.specs.StandsFor.{IsNew, Means, StandsFor}
+use Rattle.pb_folder.specs.StandsFor.{Means, StandsFor}
 use Rattle.pb_folder.proofs.Lists.{All-front, All-back, All-reverse, All-of_map, All-both, map_alike}
 use Rattle.pb_folder.proofs.SaidLaws.{one_said}
 
@@ -39,7 +42,7 @@ module _ (layers others : ℕ → KeyLayer) where
   stored_alike folder objects said holds holds_others =
       All-both (IsStored folder objects said.entries layers) (IsStored folder objects said.entries others) (λ item. layers item.number ≡ others item.number)
       (λ item one other. same_layer (bytes_of folder objects said.entries item.number) item.size (layers item.number) (others item.number) one other)
-      (stored_in said.version) holds.stored holds_others.stored
+      (stored_in said.version) holds.tables.stored holds_others.tables.stored
 
   tables_alike : (v : VersionView) → All (λ item. layers item.number ≡ others item.number) (stored_in v)
       → All (λ table. layers table.backing ≡ others table.backing) (all_tables v)
@@ -93,10 +96,10 @@ module _ (layers others : ℕ → KeyLayer) where
 
 -- ---- the folder
 
-new_says_nothing : (folder : Folder) (id : ℕ) (said : Said) → IsNew folder → Says folder id said → ⊥
+pub new_says_nothing : (folder : Folder) (id : ℕ) (said : Said) → IsNew folder → Says folder id said → ⊥
 new_says_nothing folder id said new says = nothing (folder current_name) said new says.current
   where
-    nothing : (file : Option (List ℕ)) (said : Said) → IfSome file (λ bytes. payloads bytes ≡ []) → IsSomeAnd file (λ bytes. SaysCurrent (payloads bytes) said.pointer) → ⊥
+    nothing : (file : Option (List ℕ)) (said : Said) → payloads_in file ≡ [] → IsSomeAnd file (λ bytes. SaysCurrent (payloads bytes) said.pointer) → ⊥
     nothing None said none says = says
     nothing (Some bytes) said none says =
         let last : last_or None [] ≡ Some (pointer_spelling said.pointer) = ap (λ (list : List (List ℕ)). last_or None list) (sym none) ∙ says.last in

@@ -11,10 +11,10 @@ use Rattle.pb_payloads.specs.Log.{SaysLog}
 use Rattle.pb_payloads.proofs.CurrentLaws.{one_current}
 use Rattle.pb_payloads.proofs.CataloguedLaws.{one_catalogue}
 use Rattle.pb_payloads.proofs.LoggedLaws.{one_log}
-use Rattle.pb_gate_log.specs.Payloads.{payloads}
+use Rattle.pb_gate_log.specs.Payloads.{HasPayloads, payloads}
 use Rattle.pb_version.specs.Version.{VersionView}
 use Rattle.pb_version.specs.SaysVersion.{SaysVersion}
-use Rattle.pb_folder.specs.Said.{Said, Says, HasPayloads}
+use Rattle.pb_folder.specs.Said.{Said, Says}
 use Rattle.pb_version.proofs.SaysLaws.{one_version}
 
 -- the file of these bytes has payloads that are such

@@ -1,8 +1,8 @@
 -- The count and the map that a folder's words and layers mean.
-use Rattle.std.specs.Prelude.{ℕ, max, List, [], ◌∷◌, map, Some, None}
+use Rattle.std.specs.Prelude.{ℕ, max, List, map, Some, None}
 use Rattle.pb_keys.specs.Map.{Map}
 use Rattle.pb_rows.specs.Layer.{KeyLayer}
-use Rattle.pb_rows.specs.Changing.{Changing, after}
+use Rattle.pb_rows.specs.Changing.{Changing, changed}
 use Rattle.pb_payloads.specs.Logged.{Logged, Waiting}
 use Rattle.pb_payloads.specs.Logged.Logged.{Set, Del, DelRange, Ingest}
 use Rattle.pb_payloads.specs.Log.{LogEntry, last_count}
@@ -22,8 +22,7 @@ changing_of layers (Ingest (Some span) tables) = Changing.IngestExcise span (lay
 
 -- the map after the commands of the log, the first at first
 abbrev pub after_log : (ℕ → KeyLayer) → Map → List LogEntry → Map
-after_log layers m [] = m
-after_log layers m (entry ∷ later) = after_log layers (after m (changing_of layers entry.command)) later
+after_log layers m log = changed m (map (λ entry. changing_of layers entry.command) log)
 
 -- the greater of the version's count and the last one in the log
 abbrev pub said_count : Said → ℕ

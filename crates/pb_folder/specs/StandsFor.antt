@@ -1,19 +1,14 @@
 -- What a folder stands for: a count of commands, and a map.
-use Rattle.std.specs.Prelude.{◌≡◌, ℕ, [], ◌⊎◌, IfSome}
+use Rattle.std.specs.Prelude.{◌≡◌, ℕ, ◌⊎◌}
 use Rattle.std.specs.FinMap.{empty}
 use Rattle.pb_devices.specs.Contents.{Folder}
 use Rattle.pb_devices.specs.Objects.{Objects}
-use Rattle.pb_names.specs.Spelling.{current_name}
 use Rattle.pb_keys.specs.Map.{Map}
 use Rattle.pb_rows.specs.Layer.{KeyLayer}
-use Rattle.pb_gate_log.specs.Payloads.{payloads}
+use Rattle.pb_gate_log.specs.NewFolder.{IsNew}
 use Rattle.pb_folder.specs.Said.{Said, Says}
 use Rattle.pb_folder.specs.Held.{Holds}
 use Rattle.pb_folder.specs.Meaning.{said_count, said_map}
-
--- a new store: there is no current pointer, or one without a payload
-abbrev pub IsNew : Folder → Type 0
-IsNew folder = IfSome (folder current_name) (λ bytes. payloads bytes ≡ [])
 
 -- the files say and, with the objects, hold what means this count and this map
 pub record Means (folder : Folder) (objects : Objects) (id n : ℕ) (m : Map) : Type 0 where

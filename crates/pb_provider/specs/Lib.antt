@@ -1,0 +1,4 @@
+pub mod Provider
+pub mod Faults
+pub mod Places
+pub mod Files

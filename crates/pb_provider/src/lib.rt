@@ -1,0 +1,11 @@
+//! Bytes by number: a table file is whole and durable or nobody has named it, and each number's bytes stand in one place.
+#![tactic(auto)]
+
+mod error;
+mod local;
+mod provider;
+mod reads;
+mod stages;
+
+pub use error::ReadError;
+pub use provider::Provider;

@@ -1,5 +1,3 @@
-pub mod Pointers
-pub mod Folds
 pub mod Kept
 pub mod Reserved
 pub mod Blocks

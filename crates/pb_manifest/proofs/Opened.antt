@@ -1,31 +1,33 @@
 -- The folder before an opening, by what was found behind the current pointer, and after it.
-use Rattle.std.proofs.Common.{◌≡◌, ◌<◌, ◌^◌, ℕ, List, [], Option, IsSome, sym, ◌∙◌, subst, inl, inr, arith}
-use Rattle.pb_devices.specs.Contents.{Contents, Folder, MayLeave, IsSettled, KeepsOthers}
+use Rattle.std.proofs.Common.{◌≡◌, ◌<◌, ◌^◌, ℕ, List, [], Option, Some, IfSome, IsSome, IsSomeAnd, sym, ◌∙◌, subst, inl, inr, arith}
+use Rattle.pb_devices.specs.Contents.{Contents, Folder, IsSettled, KeepsOthers}
 use Rattle.pb_devices.specs.DiskCalls.{Stays}
-use Rattle.pb_devices.proofs.Images.{stays_image, stays_settled}
-use Rattle.pb_devices.proofs.Kept.{kept_then, stays_kept}
-use Rattle.pb_gate_log.specs.EachLog.{LogPlace, EachLog}
-use Rattle.pb_gate_log.specs.Payloads.{HasList, payloads_in}
-use Rattle.pb_gate_log.proofs.LogStates.{each_kept}
+use Rattle.pb_devices.proofs.Kept.{kept_at_then, kept_but_more, stays_kept_at, stays_same}
+use Rattle.pb_gate_log.specs.Calls.{IsOpened, Opens}
+use Rattle.pb_gate_log.specs.EachLog.{LogPlace}
+use Rattle.pb_gate_log.specs.Payloads.{HasList, payloads, payloads_in}
+use Rattle.pb_gate_log.proofs.LogStates.{each_kept, each_kept_at}
 use Rattle.pb_gate_log.specs.NewFolder.{IsNew}
 use Rattle.pb_names.specs.Spelling.{current_name}
-use Rattle.pb_payloads.specs.Current.{Pointer, SaysCurrent}
+use Rattle.pb_payloads.specs.Current.{Pointer, SaysCurrent, pointer_to}
 use Rattle.pb_version.specs.Version.{VersionView}
 use Rattle.pb_version.specs.SaysVersion.{SaysVersion}
-use Rattle.pb_manifest.specs.Found.{AreThere, HasVersion, IsDamaged, IsLacking, IsUnfolded, IsUnreserved, KeepsPayloads, KeepsUnnamed, Names, SameOrSaid, Says}
-use Rattle.pb_manifest.specs.Manifest.{EachManifest, catalogue_name, manifest_name, pointer_to}
-use Rattle.pb_manifest.specs.Steps.{IsLost, IsUnread}
-use Rattle.pb_manifest.proofs.Folders.{apart, apart_catalogue, has_payloads}
-use Rattle.pb_manifest.proofs.Opening.{both_keep, both_settled, first_kept, new_names_none}
+use Rattle.pb_manifest.specs.Found.{AreThere, HasVersion, IsDamaged, IsLacking, IsNamed, IsUnfolded, IsUnreserved, KeepsPayloads, KeepsUnnamed, Names, Says}
+use Rattle.pb_manifest.specs.Manifest.{EachManifest, catalogue_name, manifest_name}
+use Rattle.pb_manifest.specs.Steps.{IsFound, IsLost, IsUnread, OpensIfThere}
+use Rattle.pb_manifest.proofs.Folders.{apart, apart_catalogue, has_payloads, has_such, such_has, such_in}
+use Rattle.pb_manifest.proofs.Opening.{both_keep, both_settled, new_names_none}
+use Rattle.pb_manifest.proofs.Logs.{opened_there}
+use Rattle.pb_manifest.proofs.Results.{some_has}
 
 -- ---- two folders in which the two files are the same
 
 module _ (number catalogue : ℕ) (one two : Folder) (manifest : one (manifest_name number) ≡ two (manifest_name number)) where
   says_carried : (version : VersionView) → Says number version one → Says number version two
-  says_carried version says = subst (λ (f : Option (List ℕ)). SaysVersion (payloads_in f) version) manifest says
+  says_carried version says = subst (λ (f : Option (List ℕ)). IsSomeAnd f (λ bytes. SaysVersion (payloads bytes) version)) manifest says
 
   says_back : (version : VersionView) → Says number version two → Says number version one
-  says_back version says = subst (λ (f : Option (List ℕ)). SaysVersion (payloads_in f) version) (sym manifest) says
+  says_back version says = subst (λ (f : Option (List ℕ)). IsSomeAnd f (λ bytes. SaysVersion (payloads bytes) version)) (sym manifest) says
 
   unreserved_carried : IsUnreserved number one → IsUnreserved number two
   unreserved_carried found = (found.0, says_carried found.0 found.1, found.2)
@@ -33,11 +35,13 @@ module _ (number catalogue : ℕ) (one two : Folder) (manifest : one (manifest_n
   unfolded_carried : IsUnfolded number one → IsUnfolded number two
   unfolded_carried unfolded version says = unfolded version (says_back version says)
 
-  there_carried : one (catalogue_name catalogue) ≡ two (catalogue_name catalogue) → AreThere number catalogue one → AreThere number catalogue two
+  there_carried : one (catalogue_name catalogue) ≡ two (catalogue_name catalogue) → AreThere number catalogue one
+      → AreThere number catalogue two
   there_carried same there =
       (subst (λ (f : Option (List ℕ)). IsSome f) manifest there.0, subst (λ (f : Option (List ℕ)). IsSome f) same there.1)
 
-  lacking_carried : one (catalogue_name catalogue) ≡ two (catalogue_name catalogue) → IsLacking number catalogue one → IsLacking number catalogue two
+  lacking_carried : one (catalogue_name catalogue) ≡ two (catalogue_name catalogue) → IsLacking number catalogue one
+      → IsLacking number catalogue two
   lacking_carried same lacking =
       elim lacking [
         | inl none ↦ inl (sym manifest ∙ none)
@@ -46,10 +50,11 @@ module _ (number catalogue : ℕ) (one two : Folder) (manifest : one (manifest_n
 
 -- ---- what is found behind the current pointer, which was opened and whose disk then stays
 
-module _ (old mid same : Contents) (payloads : List (List ℕ)) (list : HasList payloads (old.seen current_name)) (others : KeepsOthers old mid current_name) where
-  names_before : (pointer : Pointer) → SaysCurrent payloads pointer → Names pointer old.seen
+module _ (old mid : Contents) (list : List (List ℕ)) (has : HasList list (old.seen current_name))
+    (others : KeepsOthers old mid current_name) where
+  names_before : (pointer : Pointer) → SaysCurrent list pointer → Names pointer old.seen
   names_before pointer says =
-      subst (λ (l : List (List ℕ)). SaysCurrent l pointer) (sym (has_payloads payloads (old.seen current_name) list)) says
+      has_such list (old.seen current_name) (λ l. SaysCurrent l pointer) has says
 
   manifest_before : (number : ℕ) → number < 2 ^ 62 → mid.seen (manifest_name number) ≡ old.seen (manifest_name number)
   manifest_before number low = (others (manifest_name number) (λ is. apart number low (sym is))).reads
@@ -57,77 +62,51 @@ module _ (old mid same : Contents) (payloads : List (List ℕ)) (list : HasList 
   catalogue_before : (number : ℕ) → number < 2 ^ 62 → mid.seen (catalogue_name number) ≡ old.seen (catalogue_name number)
   catalogue_before number low = (others (catalogue_name number) (λ is. apart_catalogue number low (sym is))).reads
 
-  pub is_new : payloads ≡ [] → IsNew old.seen
-  is_new none = has_payloads payloads (old.seen current_name) list ∙ none
+  pub is_new : list ≡ [] → IsNew old.seen
+  is_new none = has_payloads list (old.seen current_name) has ∙ none
 
   -- it names nothing, or what isn't there
-  pub lost_is_damaged : (payloads ≡ [] → ⊥) → (file : List ℕ) → file ≡ current_name → IsLost payloads mid.seen → IsDamaged old.seen file
+  pub lost_is_damaged : (list ≡ [] → ⊥) → (file : List ℕ) → file ≡ current_name → IsLost list mid.seen → IsDamaged old.seen file
   lost_is_damaged some file is lost =
-      let has = has_payloads payloads (old.seen current_name) list in
       elim lost [
-        | inl nothing ↦ inl (is, ((λ new. some (sym has ∙ new)), (λ pointer names. nothing pointer (subst (λ (l : List (List ℕ)). SaysCurrent l pointer) has names))))
+        | inl nothing ↦ inl (
+          is,
+          (
+            (λ new. some (sym (has_payloads list (old.seen current_name) has) ∙ new)),
+            (λ pointer names. nothing pointer (such_has list (old.seen current_name) (λ l. SaysCurrent l pointer) has names)),
+          ),
+        )
         | inr absent ↦
             let pointer = absent.0 in
             let form = absent.1.in_form in
             inr (
               pointer,
               names_before pointer absent.1,
-              inl (is, inl (lacking_carried pointer.manifest pointer.catalogue mid.seen old.seen (manifest_before pointer.manifest form.manifest) (catalogue_before pointer.catalogue form.catalogue) absent.2)),
+              inl (
+                is,
+                inl (lacking_carried pointer.manifest pointer.catalogue mid.seen old.seen
+                    (manifest_before pointer.manifest form.manifest) (catalogue_before pointer.catalogue form.catalogue) absent.2),
+              ),
             )
       ]
 
-  module _ (number catalogue : ℕ) (stays : Stays mid same) (names : SaysCurrent payloads (pointer_to number catalogue)) (there : AreThere number catalogue mid.seen) where
-    same_before : same.seen (manifest_name number) ≡ old.seen (manifest_name number)
-    same_before = (stays (manifest_name number)).seen ∙ manifest_before number names.in_form.manifest
-
-    there_before : AreThere number catalogue old.seen
-    there_before =
+  -- it names two files that are there, and the disk stays while they are asked for
+  pub is_found : (same : Contents) (current : LogPlace) (number catalogue : ℕ) → IsOpened current_name list current old mid
+      → Stays mid same → SaysCurrent list (pointer_to number catalogue) → AreThere number catalogue mid.seen
+      → IsFound current number catalogue old same
+  is_found same current number catalogue opened stays names there = record {
+    payloads = list;
+    opened = record {
+      name = opened.name;
+      had = has;
+      each = each_kept_at current list mid same
+          (stays_kept_at mid same current.file (stays current.file)) opened.each;
+    };
+    names = names;
+    there =
         there_carried number catalogue mid.seen old.seen (manifest_before number names.in_form.manifest)
-        (catalogue_before catalogue names.in_form.catalogue) there
-
-    pub are_named : Names (pointer_to number catalogue) old.seen
-    are_named = names_before (pointer_to number catalogue) names
-
-    pub is_there : IsSome (same.seen (manifest_name number))
-    is_there = subst (λ (f : Option (List ℕ)). IsSome f) (sym (stays (manifest_name number)).seen) there.0
-
-    pub unread_is_damaged : (file : List ℕ) → IsUnread number same.seen file → IsDamaged old.seen file
-    unread_is_damaged file unread =
-        inr (
-          pointer_to number catalogue,
-          are_named,
-          elim unread [
-            | inl unreserved ↦ inl (unreserved.0, inr (there_before, unreserved_carried number catalogue same.seen old.seen same_before unreserved.1))
-            | inr unfolded ↦ inr (unfolded.0, (there_before, unfolded_carried number catalogue same.seen old.seen same_before unfolded.1))
-          ],
-        )
-
-    pub had_version : (version : VersionView) → Says number version same.seen → number < version.five.next → HasVersion number catalogue version old.seen
-    had_version version says own = record {
-      there = there_before;
-      says = says_carried number catalogue same.seen old.seen same_before version says;
-      own = own;
-    }
-
-    -- the manifest that is open then
-    pub opened_manifest : (new : Contents) (version : VersionView) (next : ℕ) (log current : LogPlace) → next ≡ version.five.next → current.file ≡ current_name → log.file ≡ manifest_name number → EachLog current payloads mid → EachLog log (payloads_in (same.seen (manifest_name number))) new → KeepsOthers same new (manifest_name number) → Says number version same.seen → number < version.five.next → EachManifest (record { number = number; catalogue = catalogue; next = next; log = log; current = current }) version new
-    opened_manifest new version next log current next_is current_file log_file each_current each then says own =
-        let name = manifest_name number in
-        let other : current.file ≡ name → ⊥ = λ is. apart number names.in_form.manifest (sym current_file ∙ is) in
-        record {
-          pointers = payloads;
-          current =
-              each_kept current payloads same new name other then
-              (each_kept current payloads mid same name other (stays_kept mid same name stays) each_current);
-          current_file = current_file;
-          names = names;
-          edits = payloads_in (same.seen name);
-          log = each;
-          log_file = log_file;
-          says = says;
-          drawn = omega (arith, next_is);
-          own = own;
-        }
+        (catalogue_before catalogue names.in_form.catalogue) there;
+  }
 
 -- ---- what stays
 
@@ -139,46 +118,106 @@ new_undamaged folder file new damaged =
     ]
 
 pub unnamed_kept : (old new : Contents) → KeepsOthers old new current_name → KeepsUnnamed old new
-unnamed_kept old new others = record {
-  reads = λ other unnamed. (others other unnamed.0).reads;
-  images = λ other image unnamed. (others other unnamed.0).images image;
-  settled = λ other unnamed. (others other unnamed.0).settled;
+unnamed_kept old new others = kept_but_more (λ name. name ≡ current_name) (λ name. IsNamed name old.seen) old new (λ name is. inl is) others
+
+pub settled_log : (file : List ℕ) (list : List (List ℕ)) (log : LogPlace) (old new : Contents) → IsOpened file list log old new
+    → IsSettled new file
+settled_log file list log old new opened = subst (λ (n : List ℕ). IsSettled new n) opened.name opened.each.settled
+
+-- nothing was pending, and the current pointer and the two files that it names were found
+pub record IsOpening (current : LogPlace) (number catalogue : ℕ) (old mid : Contents) : Type 0 where
+  pub settled : (name : List ℕ) → IsSettled old name
+  pub opens : OpensIfThere current_name old mid
+  pub found : IsFound current number catalogue old mid
+
+pub is_opening : (old mid : Contents) → ((name : List ℕ) → IsSettled old name)
+    → OpensIfThere current_name old mid → (found : Option (LogPlace × ℕ × ℕ)) (current : LogPlace) (number catalogue : ℕ)
+    → found ≡ Some (current, number, catalogue) → IfSome found (λ named. IsFound named.0 named.1 named.2 old mid)
+    → IsOpening current number catalogue old mid
+is_opening old mid settled opens found current number catalogue is all = record {
+  settled = settled;
+  opens = opens;
+  found = some_has found (λ named. IsFound named.0 named.1 named.2 old mid) (current, number, catalogue) is all;
 }
 
--- the current pointer was opened, and then the disk stayed
-module _ (old mid same : Contents) (settled : (name : List ℕ) → IsSettled old name) (current : (image : Option (List ℕ)) → MayLeave mid current_name image → SameOrSaid (old.seen current_name) image) (others : KeepsOthers old mid current_name) (stays : Stays mid same) where
-  others_stay : KeepsOthers old same current_name
-  others_stay = kept_then old mid same current_name others (stays_kept mid same current_name stays)
+module _ (old mid : Contents) (current : LogPlace) (number catalogue : ℕ) (state : IsOpening current number catalogue old mid) where
+  found : IsFound current number catalogue old mid
+  found = state.found
 
-  current_stays : (image : Option (List ℕ)) → MayLeave same current_name image → SameOrSaid (old.seen current_name) image
-  current_stays image left = current image (stays_image mid same current_name image (stays current_name) left)
+  low : number < 2 ^ 62
+  low = found.names.in_form.manifest
 
-  pub found_keeps : KeepsPayloads old same
-  found_keeps = first_kept old same settled current_stays others_stay
+  other : manifest_name number ≡ current_name → ⊥
+  other is = apart number low (sym is)
 
-  pub found_unnamed : KeepsUnnamed old same
-  found_unnamed = unnamed_kept old same others_stay
+  same_manifest : mid.seen (manifest_name number) ≡ old.seen (manifest_name number)
+  same_manifest = (state.opens.others (manifest_name number) other).reads
 
-  -- and the manifest that it names
-  module _ (pointer : Pointer) (names : Names pointer old.seen) where
-    pub manifest_settled : IsSettled same (manifest_name pointer.manifest)
-    manifest_settled =
-        (others_stay (manifest_name pointer.manifest) (λ is. apart pointer.manifest names.in_form.manifest (sym is))).settled
-        (settled (manifest_name pointer.manifest))
+  pub are_named : Names (pointer_to number catalogue) old.seen
+  are_named =
+      has_such found.payloads (old.seen current_name) (λ l. SaysCurrent l (pointer_to number catalogue)) found.opened.had found.names
 
-    -- was opened
-    module _ (new : Contents) (manifest : (image : Option (List ℕ)) → MayLeave new (manifest_name pointer.manifest) image → SameOrSaid (same.seen (manifest_name pointer.manifest)) image) (then : KeepsOthers same new (manifest_name pointer.manifest)) where
-      pub read_keeps : KeepsPayloads old new
-      read_keeps = both_keep old same settled current_stays others_stay new pointer.manifest names.in_form.manifest manifest then
+  pub is_there : IsSome (mid.seen (manifest_name number))
+  is_there = subst (λ (f : Option (List ℕ)). IsSome f) (sym same_manifest) found.there.0
 
-      pub read_unnamed : KeepsUnnamed old new
-      read_unnamed = record {
-        reads = λ other unnamed. (then other (unnamed.1 pointer names)).reads ∙ (others_stay other unnamed.0).reads;
-        images = λ other image unnamed left. (others_stay other unnamed.0).images image ((then other (unnamed.1 pointer names)).images image left);
-        settled = λ other unnamed before. (then other (unnamed.1 pointer names)).settled ((others_stay other unnamed.0).settled before);
-      }
+  pub manifest_settled : IsSettled mid (manifest_name number)
+  manifest_settled = (state.opens.others (manifest_name number) other).settled (state.settled (manifest_name number))
 
-      pub read_settled : IsSettled mid current_name → IsSettled new (manifest_name pointer.manifest) → (name : List ℕ) → IsSettled new name
-      read_settled first last =
-          both_settled old same settled current_stays others_stay new pointer.manifest names.in_form.manifest manifest then
-          (stays_settled mid same current_name (stays current_name) first) last
+  pub unread_is_damaged : (file : List ℕ) → IsUnread number mid.seen file → IsDamaged old.seen file
+  unread_is_damaged file unread =
+      inr (
+        pointer_to number catalogue,
+        are_named,
+        elim unread [
+          | inl unreserved ↦ inl (
+            unreserved.0,
+            inr
+                (found.there, unreserved_carried number catalogue mid.seen old.seen same_manifest unreserved.1),
+          )
+          | inr unfolded ↦ inr (unfolded.0, (found.there, unfolded_carried number catalogue mid.seen old.seen same_manifest unfolded.1))
+        ],
+      )
+
+  pub had_version : (version : VersionView) → Says number version mid.seen → number < version.five.next
+      → HasVersion number catalogue version old.seen
+  had_version version says own = record {
+    there = found.there.1;
+    says = says_carried number catalogue mid.seen old.seen same_manifest version says;
+    own = own;
+  }
+
+  -- and the manifest was opened
+  module _ (new : Contents) (opens : Opens (manifest_name number) mid new) where
+    then : OpensIfThere (manifest_name number) mid new
+    then = opened_there mid mid new (manifest_name number) is_there (stays_same mid) opens
+
+    pub read_keeps : KeepsPayloads old new
+    read_keeps = both_keep old mid state.settled state.opens new number low then
+
+    pub read_unnamed : KeepsUnnamed old new
+    read_unnamed name unnamed =
+        kept_at_then old mid new name (state.opens.others name (λ is. unnamed (inl is)))
+        (opens.others name (λ is. unnamed (inr (pointer_to number catalogue, are_named, is))))
+
+    pub read_settled : IsSettled mid current_name → IsSettled new (manifest_name number) → (name : List ℕ) → IsSettled new name
+    read_settled first last = both_settled old mid state.settled state.opens new number low then first last
+
+    -- it stands at rest then
+    pub opened_manifest : (version : VersionView) (next : ℕ) (log : LogPlace) → next ≡ version.five.next
+        → IsOpened (manifest_name number) (payloads_in (mid.seen (manifest_name number))) log mid new → Says number version mid.seen
+        → number < version.five.next
+        → EachManifest (record { number = number; catalogue = catalogue; next = next; log = log; current = current }) version new
+    opened_manifest version next log next_is opened says own = record {
+      pointers = found.payloads;
+      current =
+          each_kept current found.payloads mid new (manifest_name number) (λ is. other (sym is ∙ found.opened.name))
+          opens.others found.opened.each;
+      current_file = found.opened.name;
+      names = found.names;
+      edits = payloads_in (mid.seen (manifest_name number));
+      log = opened.each;
+      log_file = opened.name;
+      says = such_in (mid.seen (manifest_name number)) (λ l. SaysVersion l version) says;
+      drawn = omega (arith, next_is);
+      own = own;
+    }

@@ -1,5 +1,6 @@
 pub mod Manifest
 pub mod Judged
+pub mod Faults
 pub mod Numbers
 pub mod Steps
 pub mod Found

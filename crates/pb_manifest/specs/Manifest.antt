@@ -1,11 +1,12 @@
 -- A manifest over a folder: which version the folder's files say.
-use Rattle.std.specs.Prelude.{◌≡◌, ℕ, ◌<◌, ◌≤◌, ◌⊎◌, List, Option}
-use Rattle.pb_devices.specs.Contents.{Contents, Folder, MayLeave, IsImage, IsSettled}
+use Rattle.std.specs.Prelude.{◌≡◌, ℕ, ◌<◌, ◌≤◌, ◌⊎◌, List}
+use Rattle.pb_devices.specs.BeforeOrAfter.{IsBeforeOrAfter}
+use Rattle.pb_devices.specs.Contents.{Contents, Folder, IsImage, KeptBut}
 use Rattle.pb_gate_log.specs.EachLog.{LogPlace, EachLog}
-use Rattle.pb_gate_log.specs.Payloads.{payloads_in}
+use Rattle.pb_gate_log.specs.Payloads.{HasPayloads}
 use Rattle.pb_names.specs.Spelling.{current_name, file_name}
 use Rattle.pb_names.specs.declared.file_kind.FileKind.TheVariants.{Manifest, Catalogue}
-use Rattle.pb_payloads.specs.Current.{Pointer, SaysCurrent}
+use Rattle.pb_payloads.specs.Current.{SaysCurrent, pointer_to}
 use Rattle.pb_version.specs.Version.{VersionView}
 use Rattle.pb_version.specs.SaysVersion.{SaysVersion}
 
@@ -28,14 +29,11 @@ manifest_name number = file_name Manifest number
 abbrev pub catalogue_name : ℕ → List ℕ
 catalogue_name number = file_name Catalogue number
 
-abbrev pub pointer_to : ℕ → ℕ → Pointer
-pointer_to manifest catalogue = record { manifest = manifest; catalogue = catalogue }
-
--- the files of a folder say this version: the last payload of the current pointer names the two files, and the payloads of
--- the manifest are edits that fold to the version
+-- the files of a folder say this version: the last payload of the current pointer names the two files, and the manifest is
+-- there, with payloads that are edits and fold to the version
 pub record SaysFolder (number catalogue : ℕ) (version : VersionView) (folder : Folder) : Type 0 where
-  pub current : SaysCurrent (payloads_in (folder current_name)) (pointer_to number catalogue)
-  pub manifest : SaysVersion (payloads_in (folder (manifest_name number))) version
+  pub current : HasPayloads folder current_name (λ list. SaysCurrent list (pointer_to number catalogue))
+  pub manifest : HasPayloads folder (manifest_name number) (λ list. SaysVersion list version)
 
 -- reads and every image of the folder say this version, and nothing of the two files is pending
 pub record EachManifest (manifest : ManifestView) (version : VersionView) (disk : Contents) : Type 0 where
@@ -51,13 +49,11 @@ pub record EachManifest (manifest : ManifestView) (version : VersionView) (disk 
   pub drawn : manifest.next ≤ version.five.next
   pub own : manifest.number < version.five.next
 
--- of every name but these two, reads give the same, no image is new, and what was durable alone is
-pub record KeepsAllBut (old new : Contents) (one two : List ℕ) : Type 0 where
-  pub reads : (other : List ℕ) → (other ≡ one → ⊥) → (other ≡ two → ⊥) → new.seen other ≡ old.seen other
-  pub images : (other : List ℕ) (image : Option (List ℕ)) → (other ≡ one → ⊥) → (other ≡ two → ⊥) → MayLeave new other image → MayLeave old other image
-  pub settled : (other : List ℕ) → (other ≡ one → ⊥) → (other ≡ two → ⊥) → IsSettled old other → IsSettled new other
+-- each name but these two is kept
+abbrev pub KeepsAllBut : Contents → Contents → List ℕ → List ℕ → Type 0
+KeepsAllBut old new one two = KeptBut (λ other. (other ≡ one) ⊎ (other ≡ two)) old new
 
 -- each image says the one version or the other
 abbrev pub EachSays : ℕ → ℕ → VersionView → VersionView → Contents → Type 0
 EachSays number catalogue one other disk =
-    (folder : Folder) → IsImage disk folder → SaysFolder number catalogue one folder ⊎ SaysFolder number catalogue other folder
+    (folder : Folder) → IsImage disk folder → IsBeforeOrAfter (λ version. SaysFolder number catalogue version folder) one other

@@ -1,23 +1,29 @@
--- What stands between the calls of an opening.
-use Rattle.std.specs.Prelude.{◌≡◌, ◌⊎◌, List, ℕ, None}
-use Rattle.pb_devices.specs.Contents.{Folder}
-use Rattle.pb_edit.specs.Edit.{VersionEdit}
-use Rattle.pb_edit.specs.Grammar.{IsEdit, edit_spelling}
-use Rattle.pb_manifest.specs.Found.{IsLacking, IsUnfolded, IsUnreserved}
+-- What stands between the calls of a creation and of an opening.
+use Rattle.std.specs.Prelude.{◌≡◌, ◌⊎◌, List, Option, ℕ}
+use Rattle.pb_devices.specs.Contents.{Contents, Folder, KeepsOthers, MayLeave}
+use Rattle.pb_gate_log.specs.Calls.{IsOpened}
+use Rattle.pb_gate_log.specs.EachLog.{LogPlace, EachLog}
+use Rattle.pb_manifest.specs.Found.{AreThere, IsLacking, IsUnfolded, IsUnreserved, KeepsPayloadsOf}
 use Rattle.pb_manifest.specs.Manifest.{manifest_name}
 use Rattle.pb_names.specs.Spelling.{current_name}
-use Rattle.pb_payloads.specs.Current.{Pointer, SaysCurrent}
-use Rattle.pb_version.specs.Version.{VersionView}
-use Rattle.pb_version.specs.Edited.{edited}
-use Rattle.pb_version.specs.Rules.{first_broken}
+use Rattle.pb_payloads.specs.Current.{Pointer, SaysCurrent, pointer_to}
 
--- the payload is an edit that breaks no rule of the old version, and makes the new one of it
-pub record Follows (payload : List ℕ) (old new : VersionView) : Type 0 where
-  pub edit : VersionEdit
-  pub in_form : IsEdit edit
-  pub spelled : payload ≡ edit_spelling edit
-  pub unbroken : first_broken old edit ≡ None
-  pub after : new ≡ edited old edit
+-- the log of this file, with these payloads
+pub record IsLogOf (file : List ℕ) (list : List (List ℕ)) (log : LogPlace) (disk : Contents) : Type 0 where
+  pub name : log.file ≡ file
+  pub each : EachLog log list disk
+
+-- a log is opened where it is there, whether that succeeds or fails: each image has the payloads that reads gave
+pub record OpensIfThere (file : List ℕ) (old new : Contents) : Type 0 where
+  pub crash : (image : Option (List ℕ)) → MayLeave new file image → KeepsPayloadsOf (old.seen file) image
+  pub others : KeepsOthers old new file
+
+-- the log of the current pointer was opened, and the two files that its last payload names are there
+pub record IsFound (current : LogPlace) (number catalogue : ℕ) (old new : Contents) : Type 0 where
+  pub payloads : List (List ℕ)
+  pub opened : IsOpened current_name payloads current old new
+  pub names : SaysCurrent payloads (pointer_to number catalogue)
+  pub there : AreThere number catalogue old.seen
 
 -- the last of these payloads of the current pointer names no two files, or one that isn't there
 abbrev pub IsLost : List (List ℕ) → Folder → Type 0

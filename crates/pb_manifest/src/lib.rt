@@ -4,11 +4,10 @@
 mod append;
 mod create;
 mod error;
-mod fold;
+pub mod laws;
 mod manifest;
 mod numbers;
 mod open;
-mod pointer;
 
 pub use error::{CommitError, ManifestError};
 pub use manifest::Manifest;

@@ -1,29 +1,31 @@
-ghost use Rattle.std.specs.Prelude.{◌≡◌, ◌⊎◌, ◌+◌, ◌<◌, ◌≤◌, ◌^◌, true, ℕ, List, None, Err, IfNone, IfOk, IfSome, OnErr, OnOk};
+ghost use Rattle.std.specs.Prelude.{◌≡◌, ◌≢◌, ◌⊎◌, ◌+◌, ◌<◌, ◌≤◌, ◌^◌, true, ℕ, List, None, Err, IfNone, IfOk, IfSome, OnErr, OnOk};
 ghost use Rattle.pb_devices.specs.Contents.{Folder, IsImage, IsSettled, KeepsOthers};
-ghost use Rattle.pb_devices.specs.Counts.{Rose};
+ghost use Rattle.pb_devices.specs.Counts.{HasCauseAs};
 ghost use Rattle.pb_edit.specs.Grammar.{IsEdit};
+ghost use Rattle.pb_manifest.specs.Faults.{IsCommitFault, IsManifestFault};
 ghost use Rattle.pb_manifest.specs.Found.{HasVersion, IsDamaged, KeepsPayloads, KeepsUnnamed, Names};
 ghost use Rattle.pb_manifest.specs.Judged.{Judges};
 ghost use Rattle.pb_gate_log.specs.Payloads.{payloads_in};
 ghost use Rattle.pb_gate_log.specs.NewFolder.{IsNew};
-ghost use Rattle.pb_manifest.specs.Manifest.{EachManifest, EachSays, IsNumbered, KeepsAllBut, SaysFolder, manifest_name, pointer_to};
-ghost use Rattle.pb_manifest.specs.Numbers.{IsFolded, IsSpent, OnlyReserves, SameNumbers, block_end, with_next};
+ghost use Rattle.pb_manifest.specs.Manifest.{EachManifest, EachSays, IsNumbered, KeepsAllBut, SaysFolder, manifest_name};
+ghost use Rattle.pb_manifest.specs.Numbers.{IsFolded, IsSpent, OnlyReserves, SameNumbers, block_end, last_block_end, with_next};
 ghost use Rattle.pb_names.specs.Spelling.{current_name};
 ghost use Rattle.pb_version.specs.declared.broken.Broken.{Broken};
 ghost use Rattle.pb_version.specs.Edited.{edited};
 ghost use Rattle.pb_version.specs.Rules.{first_broken};
 ghost use Rattle.pb_version.specs.Version.{empty_version};
+ghost use Rattle.pb_payloads.specs.Current.{pointer_to};
 
-use crate::append::{append, spelled};
-use crate::create::{begun, lay};
+use crate::append::append;
+use crate::create::{first_version, write_manifest};
 use crate::numbers::{BLOCK, reserve_below};
-use crate::open::{find, open_current, read_version};
-use crate::pointer::spell_pointer;
+use crate::open::{find, read_version};
 use crate::{CommitError, ManifestError};
 use pb_bytes::NUMBERS;
 use pb_devices::Disk;
 use pb_edit::Edit;
 use pb_gate_log::GateLog;
+use pb_payloads::spell_pointer;
 use pb_version::Version;
 use std::alloc::Global;
 use std::marker::Model;
@@ -73,18 +75,26 @@ impl Manifest {
         ensures kept { D.told ≡ true → IfOk result (λ made. EachManifest made.0 made.1 (D.contents disk.new)) }
         ensures version { IfOk result (λ made. made.1 ≡ edited empty_version first.now) }
         ensures numbers { IfOk result (λ made. IsNumbered number catalogue next made.0) }
+        ensures folded { IfOk result (λ made. IsFolded made.1) }
+        ensures own { IfOk result (λ made. made.0.number < made.1.five.next) }
+        ensures low { IfOk result (λ made. (made.0.number < 2 ^ 62) × (made.0.catalogue < 2 ^ 62)) }
         ensures judged { Judges (first_broken empty_version first.now) result }
         ensures untouched { (rule : Broken) → result ≡ Err (CommitError.Broken rule) → disk.new ≡ disk.old }
         ensures crash { D.told ≡ true → (folder : Folder) → IsImage (D.contents disk.new) folder
             → (payloads_in (folder current_name) ≡ payloads_in ((D.contents disk.old).seen current_name))
             ⊎ SaysFolder number catalogue (edited empty_version first.now) folder }
         ensures others { D.told ≡ true → KeepsAllBut (D.contents disk.old) (D.contents disk.new) (manifest_name number) current_name }
-        ensures later { D.fault_count disk.old ≤ D.fault_count disk.new }
-        ensures failed { result ≡ Err CommitError.Disk → Rose (D.fault_count disk.old) (D.fault_count disk.new) }
+        ensures cause { HasCauseAs IsCommitFault (D.fault_count disk.old) (D.fault_count disk.new) result }
     {
-        let (version, edit) = begun(alloc, first)?;
+        let (version, edit) = first_version(alloc, first)?;
         let pointer = spell_pointer(alloc, number, catalogue)?;
-        let (log, current) = lay(alloc, disk, number, edit.as_slice(), pointer.as_slice())?;
+        let (log, current) = write_manifest(
+            alloc,
+            disk,
+            number,
+            edit.as_slice(),
+            pointer.as_slice(),
+        )?;
         Ok((
             Manifest {
                 number,
@@ -115,6 +125,9 @@ impl Manifest {
         ensures version { D.told ≡ true → IfOk result (λ found. IfSome found (λ opened.
             HasVersion opened.0.number opened.0.catalogue opened.1 (D.contents disk.old).seen)) }
         ensures next { IfOk result (λ found. IfSome found (λ opened. opened.0.next ≡ opened.1.five.next)) }
+        ensures folded { IfOk result (λ found. IfSome found (λ opened. IsFolded opened.1)) }
+        ensures own { IfOk result (λ found. IfSome found (λ opened. opened.0.number < opened.1.five.next)) }
+        ensures low { IfOk result (λ found. IfSome found (λ opened. (opened.0.number < 2 ^ 62) × (opened.0.catalogue < 2 ^ 62))) }
         ensures kept { D.told ≡ true → IfOk result (λ found. IfSome found (λ opened. EachManifest opened.0 opened.1 (D.contents disk.new))) }
         ensures damaged { D.told ≡ true → (file : List ℕ) → result ≡ Err (ManifestError.Damaged file)
             → IsDamaged (D.contents disk.old).seen file }
@@ -122,16 +135,11 @@ impl Manifest {
         ensures settled { D.told ≡ true → OnOk result ((name : List ℕ) → IsSettled (D.contents disk.new) name) }
         ensures crash { D.told ≡ true → KeepsPayloads (D.contents disk.old) (D.contents disk.new) }
         ensures others { D.told ≡ true → KeepsUnnamed (D.contents disk.old) (D.contents disk.new) }
-        ensures later { D.fault_count disk.old ≤ D.fault_count disk.new }
-        ensures failed { result ≡ Err ManifestError.Disk → Rose (D.fault_count disk.old) (D.fault_count disk.new) }
+        ensures cause { HasCauseAs IsManifestFault (D.fault_count disk.old) (D.fault_count disk.new) result }
     {
-        let Some((current, pointers)) = open_current(alloc, disk)? else {
+        let Some((current, number, catalogue)) = find(alloc, disk)? else {
             return Ok(None);
         };
-        if pointers.is_empty() {
-            return Ok(None);
-        }
-        let (number, catalogue) = find(disk, &pointers)?;
         let (log, version) = read_version(alloc, disk, number)?;
         let reserved = version.five().next;
         let manifest = Manifest {
@@ -142,6 +150,13 @@ impl Manifest {
             current,
         };
         Ok(Some((manifest, version)))
+    }
+
+    /// The manifest's own number: its file is not to be removed.
+    pub fn number(&self) -> u64
+        ensures { result ≡ self.now.number }
+    {
+        self.number
     }
 
     /// The number of the catalogue.
@@ -165,6 +180,7 @@ impl Manifest {
         requires kept { D.told ≡ true → EachManifest self.old version.old (D.contents disk.old) }
         ensures kept { D.told ≡ true → OnOk result (EachManifest self.new version.new (D.contents disk.new)) }
         ensures ok { OnOk result (version.new ≡ edited version.old edit.now) }
+        ensures folded { OnOk result (IsFolded version.old → IsFolded version.new) }
         ensures judged { Judges (first_broken version.old edit.now) result }
         ensures numbers { SameNumbers self.old self.new }
         ensures same { OnErr result ((self.new ≡ self.old) × (version.new ≡ version.old)) }
@@ -172,12 +188,11 @@ impl Manifest {
         ensures crash { D.told ≡ true
             → EachSays self.old.number self.old.catalogue version.old (edited version.old edit.now) (D.contents disk.new) }
         ensures others { D.told ≡ true → KeepsOthers (D.contents disk.old) (D.contents disk.new) (manifest_name self.old.number) }
-        ensures later { D.fault_count disk.old ≤ D.fault_count disk.new }
-        ensures failed { result ≡ Err CommitError.Disk → Rose (D.fault_count disk.old) (D.fault_count disk.new) }
+        ensures cause { HasCauseAs IsCommitFault (D.fault_count disk.old) (D.fault_count disk.new) result }
     {
         // All that may be refused, and all memory, comes before the append: behind it nothing may fail.
         let prepared = version.prepare(alloc, edit)?;
-        let payload = spelled(alloc, edit)?;
+        let payload = edit.spell(alloc)?;
         append(&mut self.log, disk, payload.as_slice())?;
         version.install(prepared);
         Ok(())
@@ -187,7 +202,8 @@ impl Manifest {
     /// blocks of `BLOCK` numbers are reserved before, one by one, each by an edit of its own.
     ///
     /// After an error none is drawn, and the blocks that were reserved stay so. `Spent` comes exactly where the last block
-    /// that is wanted would end at 2^62 or above. After `Disk` the manifest is to be opened again.
+    /// that is wanted would end at 2^62 or above; then all that end below it are reserved. After `Disk` the manifest is to be
+    /// opened again. `Broken` never comes behind a first edit.
     pub fn draw<D: Disk>(
         &mut self,
         alloc: Global,
@@ -201,16 +217,18 @@ impl Manifest {
         ensures undrawn { OnErr result (self.new.next ≡ self.old.next) }
         ensures numbers { (self.new.number ≡ self.old.number) × (self.new.catalogue ≡ self.old.catalogue) }
         ensures only { OnlyReserves version.old version.new }
+        ensures folded { IsFolded version.old → IsFolded version.new }
+        ensures reserved { OnOk result (self.new.next ≤ version.new.five.next) }
         ensures ends { OnOk result (version.new.five.next ≡ block_end version.old.five.next (self.old.next + count)) }
+        ensures full { result ≡ Err CommitError.Spent → version.new.five.next ≡ last_block_end version.old.five.next }
         ensures spent { result ≡ Err CommitError.Spent → IsSpent version.old.five.next (self.old.next + count) }
         ensures unspent { OnOk result (IsSpent version.old.five.next (self.old.next + count) → ⊥) }
-        ensures unbroken { IsFolded version.old → (rule : Broken) → result ≡ Err (CommitError.Broken rule) → ⊥ }
+        ensures unbroken { version.old.five.format ≢ 0 → (rule : Broken) → result ≡ Err (CommitError.Broken rule) → ⊥ }
         ensures kept { D.told ≡ true → (result ≡ Err CommitError.Disk → ⊥) → EachManifest self.new version.new (D.contents disk.new) }
         ensures crash { D.told ≡ true
-            → EachSays self.old.number self.old.catalogue version.new (with_next (version.new.five.next + BLOCK) version.new) (D.contents disk.new) }
+            → EachSays self.old.number self.old.catalogue version.new (with_next (version.new.five.next + 64) version.new) (D.contents disk.new) }
         ensures others { D.told ≡ true → KeepsOthers (D.contents disk.old) (D.contents disk.new) (manifest_name self.old.number) }
-        ensures later { D.fault_count disk.old ≤ D.fault_count disk.new }
-        ensures failed { result ≡ Err CommitError.Disk → Rose (D.fault_count disk.old) (D.fault_count disk.new) }
+        ensures cause { HasCauseAs IsCommitFault (D.fault_count disk.old) (D.fault_count disk.new) result }
     {
         let first = self.next;
         // A number is drawn only once its block is in every image.
@@ -235,17 +253,18 @@ impl Manifest {
         requires { D.told ≡ true → EachManifest self.old version.old (D.contents disk.old) }
         ensures numbers { SameNumbers self.old self.new }
         ensures only { OnlyReserves version.old version.new }
-        ensures reached { OnOk result ((end ≤ version.new.five.next) × (version.new.five.next < 2 ^ 64)) }
+        ensures folded { IsFolded version.old → IsFolded version.new }
+        ensures reached { OnOk result ((end ≤ version.new.five.next) × (version.new.five.next < 2 ^ 62)) }
         ensures ends { OnOk result (version.new.five.next ≡ block_end version.old.five.next end) }
+        ensures full { result ≡ Err CommitError.Spent → version.new.five.next ≡ last_block_end version.old.five.next }
         ensures spent { result ≡ Err CommitError.Spent → IsSpent version.old.five.next end }
         ensures unspent { OnOk result (IsSpent version.old.five.next end → ⊥) }
-        ensures unbroken { IsFolded version.old → (rule : Broken) → result ≡ Err (CommitError.Broken rule) → ⊥ }
+        ensures unbroken { version.old.five.format ≢ 0 → (rule : Broken) → result ≡ Err (CommitError.Broken rule) → ⊥ }
         ensures kept { D.told ≡ true → (result ≡ Err CommitError.Disk → ⊥) → EachManifest self.new version.new (D.contents disk.new) }
         ensures crash { D.told ≡ true
-            → EachSays self.old.number self.old.catalogue version.new (with_next (version.new.five.next + BLOCK) version.new) (D.contents disk.new) }
+            → EachSays self.old.number self.old.catalogue version.new (with_next (version.new.five.next + 64) version.new) (D.contents disk.new) }
         ensures others { D.told ≡ true → KeepsOthers (D.contents disk.old) (D.contents disk.new) (manifest_name self.old.number) }
-        ensures later { D.fault_count disk.old ≤ D.fault_count disk.new }
-        ensures failed { result ≡ Err CommitError.Disk → Rose (D.fault_count disk.old) (D.fault_count disk.new) }
+        ensures cause { HasCauseAs IsCommitFault (D.fault_count disk.old) (D.fault_count disk.new) result }
     {
         while version.five().next < end {
             self.reserve_block(alloc, disk, version)?;
@@ -261,18 +280,17 @@ impl Manifest {
     ) -> Result<(), CommitError>
         requires { D.told ≡ true → EachManifest self.old version.old (D.contents disk.old) }
         ensures numbers { SameNumbers self.old self.new }
-        ensures ok { OnOk result (version.new ≡ with_next (version.old.five.next + BLOCK) version.old) }
-        ensures low { OnOk result (version.old.five.next + BLOCK < 2 ^ 62) }
+        ensures ok { OnOk result (version.new ≡ with_next (version.old.five.next + 64) version.old) }
+        ensures low { OnOk result (version.old.five.next + 64 < 2 ^ 62) }
         ensures folded { OnOk result (IsFolded version.old → IsFolded version.new) }
         ensures same { OnErr result (version.new ≡ version.old) }
-        ensures spent { result ≡ Err CommitError.Spent → 2 ^ 62 ≤ version.old.five.next + BLOCK }
-        ensures unbroken { IsFolded version.old → (rule : Broken) → result ≡ Err (CommitError.Broken rule) → ⊥ }
+        ensures spent { result ≡ Err CommitError.Spent → 2 ^ 62 ≤ version.old.five.next + 64 }
+        ensures unbroken { version.old.five.format ≢ 0 → (rule : Broken) → result ≡ Err (CommitError.Broken rule) → ⊥ }
         ensures kept { D.told ≡ true → (result ≡ Err CommitError.Disk → ⊥) → EachManifest self.new version.new (D.contents disk.new) }
         ensures crash { D.told ≡ true
-            → EachSays self.old.number self.old.catalogue version.new (with_next (version.new.five.next + BLOCK) version.new) (D.contents disk.new) }
+            → EachSays self.old.number self.old.catalogue version.new (with_next (version.new.five.next + 64) version.new) (D.contents disk.new) }
         ensures others { D.told ≡ true → KeepsOthers (D.contents disk.old) (D.contents disk.new) (manifest_name self.old.number) }
-        ensures later { D.fault_count disk.old ≤ D.fault_count disk.new }
-        ensures failed { result ≡ Err CommitError.Disk → Rose (D.fault_count disk.old) (D.fault_count disk.new) }
+        ensures cause { HasCauseAs IsCommitFault (D.fault_count disk.old) (D.fault_count disk.new) result }
     {
         let next = version.five().next;
         if next >= NUMBERS - BLOCK {

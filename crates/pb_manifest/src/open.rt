@@ -1,70 +1,52 @@
-ghost use Rattle.std.specs.Prelude.{◌≡◌, ◌≢◌, ◌⊎◌, ◌<◌, ◌≤◌, [], true, false, ℕ, List, Option, None, Err, IsSome, IfErr, IfNone, IfOk, IfSome, OnOk};
-ghost use Rattle.pb_devices.specs.Contents.{IsSettled, KeepsOthers, MayLeave};
-ghost use Rattle.pb_devices.specs.Counts.{HasCause, Rose};
+ghost use Rattle.std.specs.Prelude.{◌≡◌, ◌≢◌, ◌⊎◌, ◌<◌, ◌^◌, [], true, false, ℕ, List, None, Err, IsSome, IfErr, IfNone, IfOk, IfSome, OnOk};
+ghost use Rattle.pb_devices.specs.Contents.{IsSettled};
+ghost use Rattle.pb_devices.specs.Counts.{HasCause, HasCauseAs};
 ghost use Rattle.pb_devices.specs.DiskCalls.{Stays};
-ghost use Rattle.pb_gate_log.specs.EachLog.{EachLog};
-ghost use Rattle.pb_gate_log.specs.Payloads.{HasList, payloads_in};
-ghost use Rattle.pb_manifest.specs.Found.{AreThere, IsLacking, SameOrSaid, Says};
-ghost use Rattle.pb_manifest.specs.Manifest.{catalogue_name, manifest_name, pointer_to};
-ghost use Rattle.pb_manifest.specs.Steps.{IsLost, IsUnread};
+ghost use Rattle.pb_gate_log.specs.Calls.{IsOpened, Opens};
+ghost use Rattle.pb_gate_log.specs.NewFolder.{IsNew};
+ghost use Rattle.pb_gate_log.specs.Payloads.{payloads_in};
+ghost use Rattle.pb_manifest.specs.Faults.{IsManifestFault};
+ghost use Rattle.pb_manifest.specs.Found.{AreThere, IsDamaged, IsLacking, Says};
+ghost use Rattle.pb_manifest.specs.Manifest.{catalogue_name, manifest_name};
+ghost use Rattle.pb_manifest.specs.Numbers.{IsFolded};
+ghost use Rattle.pb_manifest.specs.Steps.{IsFound, IsLost, IsUnread, OpensIfThere};
 ghost use Rattle.pb_names.specs.Spelling.{current_name};
-ghost use Rattle.pb_payloads.specs.Current.{SaysCurrent};
+ghost use Rattle.pb_payloads.specs.Current.{SaysCurrent, pointer_to};
 
 use crate::ManifestError;
-use crate::fold::fold;
-use crate::pointer::last_pointer;
 use pb_devices::{Disk, Failed, Fault};
 use pb_gate_log::GateLog;
 use pb_keys::Bytes;
 use pb_names::{FileKind, Name, current, file};
+use pb_payloads::last_pointer;
 use pb_version::Version;
 use std::alloc::Global;
 
-/// Opens the log of `CURRENT`, and gives its payloads. None exactly where it is absent.
-pub(crate) fn open_current<D: Disk>(
+/// Opens the log of `CURRENT`, and gives it with the numbers of the manifest and of the catalogue that its last payload names.
+/// None exactly where it is absent or has no payload.
+pub(crate) fn find<D: Disk>(
     alloc: Global,
     disk: &mut D,
-) -> Result<Option<(GateLog, Vec<Bytes>)>, ManifestError>
+) -> Result<Option<(GateLog, u64, u64)>, ManifestError>
     requires { D.told ≡ true → IsSettled (D.contents disk.old) current_name }
-    ensures absent { D.told ≡ true → IfOk result (λ found. IfNone found ((D.contents disk.old).seen current_name ≡ None)) }
-    ensures name { IfOk result (λ found. IfSome found (λ opened. opened.0.file ≡ current_name)) }
-    ensures list { D.told ≡ true → IfOk result (λ found. IfSome found (λ opened.
-        HasList opened.1.items ((D.contents disk.old).seen current_name))) }
-    ensures log { D.told ≡ true → IfOk result (λ found. IfSome found (λ opened. EachLog opened.0 opened.1.items (D.contents disk.new))) }
+    ensures none { D.told ≡ true → IfOk result (λ found. IfNone found (IsNew (D.contents disk.old).seen)) }
+    ensures low { IfOk result (λ found. IfSome found (λ named. (named.1 < 2 ^ 62) × (named.2 < 2 ^ 62))) }
+    ensures found { D.told ≡ true → IfOk result (λ found. IfSome found (λ named.
+        IsFound named.0 named.1 named.2 (D.contents disk.old) (D.contents disk.new))) }
+    ensures damaged { D.told ≡ true → (file : List ℕ) → result ≡ Err (ManifestError.Damaged file)
+        → IsDamaged (D.contents disk.old).seen file }
     ensures settled { D.told ≡ true → OnOk result (IsSettled (D.contents disk.new) current_name) }
-    ensures crash { D.told ≡ true → (image : Option (List ℕ)) → MayLeave (D.contents disk.new) current_name image
-        → SameOrSaid ((D.contents disk.old).seen current_name) image }
-    ensures others { D.told ≡ true → KeepsOthers (D.contents disk.old) (D.contents disk.new) current_name }
-    ensures known { IfErr result (λ error. (error ≡ ManifestError.Disk) ⊎ (error ≡ ManifestError.NoMemory)) }
-    ensures later { D.fault_count disk.old ≤ D.fault_count disk.new }
-    ensures failed { result ≡ Err ManifestError.Disk → Rose (D.fault_count disk.old) (D.fault_count disk.new) }
+    ensures opens { D.told ≡ true → OpensIfThere current_name (D.contents disk.old) (D.contents disk.new) }
+    ensures cause { HasCauseAs IsManifestFault (D.fault_count disk.old) (D.fault_count disk.new) result }
 {
-    let name = current();
-    if !is_there(disk, name)? {
+    let Some((current, pointers)) = open_current(alloc, disk)? else {
+        return Ok(None);
+    };
+    if pointers.is_empty() {
         return Ok(None);
     }
-    let (log, payloads) = opened(alloc, disk, name)?;
-    Ok(Some((log, payloads)))
-}
-
-/// The numbers of the manifest and of the catalogue that the last payload of `CURRENT` names.
-pub(crate) fn find<D: Disk>(disk: &mut D, payloads: &[Bytes]) -> Result<(u64, u64), ManifestError>
-    requires { payloads.now ≡ [] → ⊥ }
-    ensures names { IfOk result (λ found. SaysCurrent payloads.now (pointer_to found.0 found.1)) }
-    ensures there { D.told ≡ true → IfOk result (λ found. AreThere found.0 found.1 (D.contents disk.old).seen) }
-    ensures damaged { D.told ≡ true → (file : List ℕ) → result ≡ Err (ManifestError.Damaged file)
-        → (file ≡ current_name) × IsLost payloads.now (D.contents disk.old).seen }
-    ensures stays { D.told ≡ true → Stays (D.contents disk.old) (D.contents disk.new) }
-    ensures later { D.fault_count disk.old ≤ D.fault_count disk.new }
-    ensures failed { result ≡ Err ManifestError.Disk → Rose (D.fault_count disk.old) (D.fault_count disk.new) }
-{
-    let Some((manifest, catalogue)) = last_pointer(payloads) else {
-        return Err(ManifestError::Damaged(current()));
-    };
-    if !are_there(disk, manifest, catalogue)? {
-        return Err(ManifestError::Damaged(current()));
-    }
-    Ok((manifest, catalogue))
+    let (manifest, catalogue) = named(disk, &pointers)?;
+    Ok(Some((current, manifest, catalogue)))
 }
 
 /// Opens the log of a manifest, and gives the version that its edits fold to.
@@ -75,28 +57,66 @@ pub(crate) fn read_version<D: Disk>(
 ) -> Result<(GateLog, Version), ManifestError>
     requires there { D.told ≡ true → IsSome ((D.contents disk.old).seen (manifest_name number)) }
     requires settled { D.told ≡ true → IsSettled (D.contents disk.old) (manifest_name number) }
-    ensures name { IfOk result (λ read. read.0.file ≡ manifest_name number) }
-    ensures log { D.told ≡ true → IfOk result (λ read.
-        EachLog read.0 (payloads_in ((D.contents disk.old).seen (manifest_name number))) (D.contents disk.new)) }
+    ensures ok { D.told ≡ true → IfOk result (λ read. IsOpened (manifest_name number)
+        (payloads_in ((D.contents disk.old).seen (manifest_name number))) read.0 (D.contents disk.old) (D.contents disk.new)) }
     ensures says { D.told ≡ true → IfOk result (λ read. Says number read.1 (D.contents disk.old).seen) }
+    ensures folded { IfOk result (λ read. IsFolded read.1) }
     ensures own { IfOk result (λ read. number < read.1.five.next) }
     ensures damaged { D.told ≡ true → (file : List ℕ) → result ≡ Err (ManifestError.Damaged file)
         → IsUnread number (D.contents disk.old).seen file }
-    ensures crash { D.told ≡ true → (image : Option (List ℕ)) → MayLeave (D.contents disk.new) (manifest_name number) image
-        → SameOrSaid ((D.contents disk.old).seen (manifest_name number)) image }
-    ensures others { D.told ≡ true → KeepsOthers (D.contents disk.old) (D.contents disk.new) (manifest_name number) }
-    ensures later { D.fault_count disk.old ≤ D.fault_count disk.new }
-    ensures failed { result ≡ Err ManifestError.Disk → Rose (D.fault_count disk.old) (D.fault_count disk.new) }
+    ensures opens { D.told ≡ true → Opens (manifest_name number) (D.contents disk.old) (D.contents disk.new) }
+    ensures cause { HasCauseAs IsManifestFault (D.fault_count disk.old) (D.fault_count disk.new) result }
 {
     let name = file(FileKind::Manifest, number);
     let (log, payloads) = opened(alloc, disk, name)?;
-    let Some(version) = fold(alloc, &payloads)? else {
+    let Some(version) = Version::of_payloads(alloc, &payloads)? else {
         return Err(ManifestError::Damaged(name));
     };
     if number >= version.five().next {
         return Err(ManifestError::Damaged(current()));
     }
     Ok((log, version))
+}
+
+/// Opens the log of `CURRENT`, and gives its payloads. None exactly where it is absent.
+fn open_current<D: Disk>(
+    alloc: Global,
+    disk: &mut D,
+) -> Result<Option<(GateLog, Vec<Bytes>)>, ManifestError>
+    requires { D.told ≡ true → IsSettled (D.contents disk.old) current_name }
+    ensures absent { D.told ≡ true → IfOk result (λ found. IfNone found ((D.contents disk.old).seen current_name ≡ None)) }
+    ensures ok { D.told ≡ true → IfOk result (λ found. IfSome found (λ opened.
+        IsOpened current_name opened.1.items opened.0 (D.contents disk.old) (D.contents disk.new))) }
+    ensures settled { D.told ≡ true → OnOk result (IsSettled (D.contents disk.new) current_name) }
+    ensures opens { D.told ≡ true → OpensIfThere current_name (D.contents disk.old) (D.contents disk.new) }
+    ensures known { IfErr result (λ error. (error ≡ ManifestError.Disk) ⊎ (error ≡ ManifestError.NoMemory)) }
+    ensures cause { HasCauseAs IsManifestFault (D.fault_count disk.old) (D.fault_count disk.new) result }
+{
+    let name = current();
+    if !is_there(disk, name)? {
+        return Ok(None);
+    }
+    let (log, payloads) = opened(alloc, disk, name)?;
+    Ok(Some((log, payloads)))
+}
+
+/// The numbers of the manifest and of the catalogue that the last payload of `CURRENT` names.
+fn named<D: Disk>(disk: &mut D, payloads: &[Bytes]) -> Result<(u64, u64), ManifestError>
+    requires { payloads.now ≡ [] → ⊥ }
+    ensures names { IfOk result (λ found. SaysCurrent payloads.now (pointer_to found.0 found.1)) }
+    ensures there { D.told ≡ true → IfOk result (λ found. AreThere found.0 found.1 (D.contents disk.old).seen) }
+    ensures damaged { D.told ≡ true → (file : List ℕ) → result ≡ Err (ManifestError.Damaged file)
+        → (file ≡ current_name) × IsLost payloads.now (D.contents disk.old).seen }
+    ensures stays { D.told ≡ true → Stays (D.contents disk.old) (D.contents disk.new) }
+    ensures cause { HasCauseAs IsManifestFault (D.fault_count disk.old) (D.fault_count disk.new) result }
+{
+    let Some((manifest, catalogue)) = last_pointer(payloads) else {
+        return Err(ManifestError::Damaged(current()));
+    };
+    if !are_there(disk, manifest, catalogue)? {
+        return Err(ManifestError::Damaged(current()));
+    }
+    Ok((manifest, catalogue))
 }
 
 /// Whether both files are there that `CURRENT` names. Both are asked for, whatever the first answer is.
@@ -129,15 +149,11 @@ fn opened<D: Disk>(
 ) -> Result<(GateLog, Vec<Bytes>), ManifestError>
     requires there { D.told ≡ true → IsSome ((D.contents disk.old).seen name) }
     requires settled { D.told ≡ true → IsSettled (D.contents disk.old) name }
-    ensures name { IfOk result (λ opened. opened.0.file ≡ name) }
-    ensures list { D.told ≡ true → IfOk result (λ opened. HasList opened.1.items ((D.contents disk.old).seen name)) }
-    ensures log { D.told ≡ true → IfOk result (λ opened. EachLog opened.0 opened.1.items (D.contents disk.new)) }
-    ensures crash { D.told ≡ true → (image : Option (List ℕ)) → MayLeave (D.contents disk.new) name image
-        → SameOrSaid ((D.contents disk.old).seen name) image }
-    ensures others { D.told ≡ true → KeepsOthers (D.contents disk.old) (D.contents disk.new) name }
+    ensures ok { D.told ≡ true → IfOk result (λ opened.
+        IsOpened name opened.1.items opened.0 (D.contents disk.old) (D.contents disk.new)) }
+    ensures opens { D.told ≡ true → Opens name (D.contents disk.old) (D.contents disk.new) }
     ensures known { IfErr result (λ error. (error ≡ ManifestError.Disk) ⊎ (error ≡ ManifestError.NoMemory)) }
-    ensures later { D.fault_count disk.old ≤ D.fault_count disk.new }
-    ensures failed { result ≡ Err ManifestError.Disk → Rose (D.fault_count disk.old) (D.fault_count disk.new) }
+    ensures cause { HasCauseAs IsManifestFault (D.fault_count disk.old) (D.fault_count disk.new) result }
 {
     match GateLog::open(alloc, disk, name) {
         Ok((log, payloads)) => Ok((log, payloads)),

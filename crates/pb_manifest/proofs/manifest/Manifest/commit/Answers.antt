@@ -5,6 +5,8 @@ use Rattle.pb_manifest.specs.Manifest.{ManifestView, EachManifest, EachSays}
 use Rattle.pb_version.specs.Version.{VersionView}
 use Rattle.pb_version.specs.Edited.{edited}
 use Rattle.pb_version.proofs.Spelling.{spellable_edit}
+use Rattle.pb_manifest.specs.Numbers.{IsFolded}
+use Rattle.pb_manifest.proofs.Kept.{folded_further}
 use Rattle.pb_manifest.proofs.Folders.{each_says, perhaps_appended, appended}
 use Rattle.pb_manifest.proofs.manifest.Manifest.commit.Goals as goal
 
@@ -31,20 +33,26 @@ returns-in_err-append-clause-crash g c = λ told.
     let new = g.D.Disk.contents c.append.new.disk in
     let version = c.args.version.now in
     let edit = c.args.edit.now in
-    let each : EachManifest inside version old = subst (λ (m : ManifestView). EachManifest m version old) (sym c.self.view_is) (c.requires.kept told) in
+    let each : EachManifest inside version old =
+    subst (λ (m : ManifestView). EachManifest m version old) (sym c.self.view_is) (c.requires.kept told) in
     subst (λ (m : ManifestView). EachSays m.number m.catalogue version (edited version edit) new) c.self.view_is
     (perhaps_appended inside version edit c.as_slice.result.now old new each c.requires.edit c.in_ok-prepared.ensures.ok.unbroken
-    (c.as_slice.ensures.value ∙ c.in_ok-payload.ensures) (c.in_err-append.ensures.others told)
-    (λ image left. c.in_err-append.ensures.crash told each.edits image each.log left))
+    (c.as_slice.ensures.value ∙ c.in_ok-payload.ensures) (c.in_err-append.ensures.appends told).others
+    (λ image left. (c.in_err-append.ensures.appends told).crash each.edits image each.log left))
 
 pub returns-in_err-append-clause-others : goal.returns-in_err-append-clause-others
 returns-in_err-append-clause-others g c = λ told.
     let each = c.requires.kept told in
     subst (λ (name : List ℕ). KeepsOthers (g.D.Disk.contents c.args.disk.now) (g.D.Disk.contents c.append.new.disk) name)
-    (ap (λ (m : ManifestView). m.log.file) c.self.view_is ∙ each.log_file) (c.in_err-append.ensures.others told)
+    (ap (λ (m : ManifestView). m.log.file) c.self.view_is ∙ each.log_file) (c.in_err-append.ensures.appends told).others
 
 pub install-requires : goal.install-requires
 install-requires g c = (c.args.edit.now, c.in_ok-prepared.ensures.ok)
+
+pub returns-clause-folded : goal.returns-clause-folded
+returns-clause-folded g c = λ folded.
+    subst IsFolded (sym (c.install.ensures c.args.edit.now c.in_ok-prepared.ensures.ok))
+    (folded_further c.args.version.now c.args.edit.now folded c.in_ok-prepared.ensures.ok.unbroken)
 
 pub returns-clause-kept : goal.returns-clause-kept
 returns-clause-kept g c = λ told.
@@ -53,12 +61,13 @@ returns-clause-kept g c = λ told.
     let new = g.D.Disk.contents c.append.new.disk in
     let version = c.args.version.now in
     let edit = c.args.edit.now in
-    let each : EachManifest inside version old = subst (λ (m : ManifestView). EachManifest m version old) (sym c.self.view_is) (c.requires.kept told) in
+    let each : EachManifest inside version old =
+    subst (λ (m : ManifestView). EachManifest m version old) (sym c.self.view_is) (c.requires.kept told) in
     subst (λ (v : VersionView). EachManifest (record inside { log = c.append.new.log }) v new)
     (sym (c.install.ensures edit c.in_ok-prepared.ensures.ok))
     (appended inside version edit c.as_slice.result.now old new each c.requires.edit c.in_ok-prepared.ensures.ok.unbroken
-    (c.as_slice.ensures.value ∙ c.in_ok-payload.ensures) (c.in_ok-append.ensures.others told)
-    c.append.new.log c.in_ok-append.ensures.file (c.in_ok-append.ensures.ok told each.edits each.log))
+    (c.as_slice.ensures.value ∙ c.in_ok-payload.ensures) (c.in_ok-append.ensures.appends told).others
+    c.append.new.log (c.in_ok-append.ensures.appends told).file ((c.in_ok-append.ensures.appends told).ok each.edits each.log))
 
 pub returns-clause-crash : goal.returns-clause-crash
 returns-clause-crash g c = λ told.
@@ -67,14 +76,15 @@ returns-clause-crash g c = λ told.
     let new = g.D.Disk.contents c.append.new.disk in
     let version = c.args.version.now in
     let edit = c.args.edit.now in
-    let each : EachManifest inside version old = subst (λ (m : ManifestView). EachManifest m version old) (sym c.self.view_is) (c.requires.kept told) in
+    let each : EachManifest inside version old =
+    subst (λ (m : ManifestView). EachManifest m version old) (sym c.self.view_is) (c.requires.kept told) in
     subst (λ (m : ManifestView). EachSays m.number m.catalogue version (edited version edit) new) c.self.view_is
     (perhaps_appended inside version edit c.as_slice.result.now old new each c.requires.edit c.in_ok-prepared.ensures.ok.unbroken
-    (c.as_slice.ensures.value ∙ c.in_ok-payload.ensures) (c.in_ok-append.ensures.others told)
-    (λ image left. c.in_ok-append.ensures.crash told each.edits image each.log left))
+    (c.as_slice.ensures.value ∙ c.in_ok-payload.ensures) (c.in_ok-append.ensures.appends told).others
+    (λ image left. (c.in_ok-append.ensures.appends told).crash each.edits image each.log left))
 
 pub returns-clause-others : goal.returns-clause-others
 returns-clause-others g c = λ told.
     let each = c.requires.kept told in
     subst (λ (name : List ℕ). KeepsOthers (g.D.Disk.contents c.args.disk.now) (g.D.Disk.contents c.append.new.disk) name)
-    (ap (λ (m : ManifestView). m.log.file) c.self.view_is ∙ each.log_file) (c.in_ok-append.ensures.others told)
+    (ap (λ (m : ManifestView). m.log.file) c.self.view_is ∙ each.log_file) (c.in_ok-append.ensures.appends told).others

@@ -1,13 +1,11 @@
-use Rattle.std.proofs.Common.{◌≡◌, ◌+◌, ◌++◌, ◌∷◌, [], sym, ap, ◌∙◌, subst, inl, arith}
+use Rattle.std.proofs.Common.{◌≡◌, ◌+◌, sym, ap, ◌∙◌, subst, inl, arith}
 use Rattle.pb_edit.specs.Grammar.{IsEdit}
 use Rattle.pb_manifest.specs.Numbers.{reservation}
 use Rattle.pb_manifest.proofs.Blocks.{block_after, block_says}
 use Rattle.pb_manifest.proofs.Folders.{each_says, each_says_of}
-use Rattle.pb_version.proofs.FoldLaws.{folds_further}
 use Rattle.pb_manifest.proofs.Results.{judged_broken}
 use Rattle.pb_manifest.proofs.Reserved.{reservation_is, reservation_unbroken}
-use Rattle.pb_version.specs.Version.{FiveNumbers, VersionView}
-use Rattle.pb_version.specs.Fold.{FoldsTo}
+use Rattle.pb_version.specs.Version.{FiveNumbers}
 use Rattle.pb_version.specs.Rules.{first_broken}
 use Rattle.pb_manifest.proofs.manifest.Manifest.reserve_block.Goals as goal
 
@@ -20,34 +18,31 @@ commit-requires-clause-edit g c =
     subst IsEdit (sym c.reserve_below-edit.ensures) (reservation_is (c.next.inside.next + 64) (omega (arith, c.if-next.false)))
 
 pub returns-clause-unbroken : goal.returns-clause-unbroken
-returns-clause-unbroken g c = λ folded rule is.
-    let same : c.next.inside.next ≡ c.args.version.now.five.next = ap (λ (f : FiveNumbers). f.next) (c.next.view_is ∙ c.five.ensures.value) in
+returns-clause-unbroken g c = λ begun rule is.
+    let same : c.next.inside.next ≡ c.args.version.now.five.next =
+    ap (λ (f : FiveNumbers). f.next) (c.next.view_is ∙ c.five.ensures.value) in
     let broken = judged_broken (first_broken c.args.version.now c.reserve_below-edit.result) _ rule c.in-Err.ensures.judged is in
     let unbroken = ap (first_broken c.args.version.now) c.reserve_below-edit.ensures
-    ∙ reservation_unbroken c.args.version.now (c.next.inside.next + 64) folded (omega (arith, same)) in
+    ∙ reservation_unbroken c.args.version.now (c.next.inside.next + 64) c.five.ensures.in_form begun (omega (arith, same)) in
     cc
 
 pub returns-clause-crash : goal.returns-clause-crash
 returns-clause-crash g c = λ told.
-    let same : c.next.inside.next ≡ c.args.version.now.five.next = ap (λ (f : FiveNumbers). f.next) (c.next.view_is ∙ c.five.ensures.value) in
-    block_says c.args.self.now.number c.args.self.now.catalogue (g.D.Disk.contents c.commit.new.disk) c.args.version.now c.commit.new.version c.reserve_below-edit.result
+    let same : c.next.inside.next ≡ c.args.version.now.five.next =
+    ap (λ (f : FiveNumbers). f.next) (c.next.view_is ∙ c.five.ensures.value) in
+    block_says c.args.self.now.number c.args.self.now.catalogue (g.D.Disk.contents c.commit.new.disk)
+    c.args.version.now c.commit.new.version c.reserve_below-edit.result
     (c.reserve_below-edit.ensures ∙ ap (λ n. reservation (n + 64)) same) c.in-Err.ensures.same.1 (c.in-Err.ensures.crash told)
 
 pub returns-in-Ok-clause-ok : goal.returns-in-Ok-clause-ok
 returns-in-Ok-clause-ok g c =
-    let same : c.next.inside.next ≡ c.args.version.now.five.next = ap (λ (f : FiveNumbers). f.next) (c.next.view_is ∙ c.five.ensures.value) in
+    let same : c.next.inside.next ≡ c.args.version.now.five.next =
+    ap (λ (f : FiveNumbers). f.next) (c.next.view_is ∙ c.five.ensures.value) in
     block_after c.args.version.now c.commit.new.version c.reserve_below-edit.result (c.args.version.now.five.next + 64)
     (c.reserve_below-edit.ensures ∙ ap (λ n. reservation (n + 64)) same) c.in-Ok.ensures.ok
 
-pub returns-in-Ok-clause-folded : goal.returns-in-Ok-clause-folded
-returns-in-Ok-clause-folded g c = λ folded.
-    let edit = c.reserve_below-edit.result in (
-      folded.0 ++ edit ∷ [],
-      subst (λ (v : VersionView). FoldsTo (folded.0 ++ edit ∷ []) v) (sym c.in-Ok.ensures.ok)
-          (folds_further folded.0 c.args.version.now edit folded.1 c.in-Ok.ensures.judged),
-    )
-
 pub returns-in-Ok-clause-crash : goal.returns-in-Ok-clause-crash
 returns-in-Ok-clause-crash g c = λ told folder image.
-    inl (each_says_of c.commit.new.self c.commit.new.version (g.D.Disk.contents c.commit.new.disk) c.args.self.now.number c.args.self.now.catalogue
+    inl (each_says_of c.commit.new.self c.commit.new.version (g.D.Disk.contents c.commit.new.disk)
+    c.args.self.now.number c.args.self.now.catalogue
     c.in-Ok.ensures.numbers.number c.in-Ok.ensures.numbers.catalogue (c.in-Ok.ensures.kept told) folder image)

@@ -1,0 +1,2 @@
+pub mod Excised
+pub mod Examples

@@ -1,0 +1,12 @@
+pub mod Results
+pub mod Lists
+pub mod Objects
+pub mod Entries
+pub mod CatalogueFolds
+pub mod Reading
+pub mod Views
+pub mod Maps
+pub mod Layers
+pub mod AtFaultLaws
+pub mod Levels
+pub mod Meanings

@@ -1,6 +1,0 @@
-use Rattle.std.proofs.Common.{◌≡◌, drop}
-use Rattle.pb_folder.specs.Listed.{folder_of}
-use Rattle.pb_folder_tests.proofs.files.bytes_of.Given as goal
-
-abbrev pub invariant-loop-file : goal.invariant-loop-file
-invariant-loop-file l = folder_of (drop l.file-index l.files) l.name ≡ folder_of l.files l.name

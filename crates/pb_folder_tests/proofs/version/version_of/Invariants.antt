@@ -1,7 +1,0 @@
-use Rattle.std.proofs.Common.{drop}
-use Rattle.pb_version.specs.Version.{empty_version}
-use Rattle.pb_folder_tests.proofs.Edits.{AlikeOn}
-use Rattle.pb_folder_tests.proofs.version.version_of.Given as goal
-
-abbrev pub invariant-loop-payload : goal.invariant-loop-payload
-invariant-loop-payload l = AlikeOn empty_version l.version l.payloads (drop l.payload-index l.payloads)

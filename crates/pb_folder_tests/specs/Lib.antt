@@ -1,6 +1,0 @@
-pub mod Faults
-pub mod Left
-pub mod Said
-pub mod None
-pub mod Shown
-pub mod Tables

@@ -1,0 +1,4 @@
+pub mod First
+pub mod Standing
+pub mod Reopened
+pub mod Files

@@ -1,4 +1,0 @@
-use Rattle.pb_manifest_tests.proofs.drive.reopened.Goals as goal
-
-pub open-requires : goal.open-requires
-open-requires g c = λ told. (c.in_ok-barrier.ensures.ok told).settled

@@ -3,3 +3,14 @@ pub mod Marks
 pub mod Stores
 pub mod Lines
 pub mod Runs
+pub mod Named
+pub mod Family
+pub mod Ran
+pub mod Effects
+pub mod Blocks
+pub mod Causes
+pub mod Meeting
+pub mod Replies
+pub mod After
+pub mod Trail
+pub mod Agreement

@@ -2,7 +2,7 @@
 use Rattle.std.specs.Prelude.{ℕ, Bool, true, false, List, [], ◌∷◌, map}
 use Rattle.pb_devices.specs.declared.trace.Mark.{Mark}
 use Rattle.pb_keys.specs.Map.{Map}
-use Rattle.pb_reply.specs.Refusals.{number_of}
+use Rattle.pb_reply.specs.Refusals.{refusal_number}
 use Rattle.pb_reply.specs.declared.reply.Reply.{Reply}
 use Rattle.pb_reply.specs.declared.reply.Reply.TheVariants.{Opened, Accepted, Started, Working, Refused}
 use Rattle.pb_machine.specs.States.{FamilyState, is_down}
@@ -16,7 +16,7 @@ pub record Ran : Type 0 where
 
 -- 0 where the line wasn't refused
 abbrev pub refusal_of : Reply → ℕ
-refusal_of (Refused refusal) = number_of refusal
+refusal_of (Refused refusal) = refusal_number refusal
 refusal_of reply = 0
 
 -- 0 where the reply tells no count

@@ -1,5 +1,5 @@
 -- The lines of a script, run in order.
-use Rattle.std.specs.Prelude.{◌≡◌, List, [], ◌∷◌, ◌++◌, Option, Some, None, IsSomeAnd}
+use Rattle.std.specs.Prelude.{◌≡◌, List, [], ◌∷◌, Option, Some, None, IsSomeAnd}
 use Rattle.pb_reply.specs.declared.reply.Reply.{Reply}
 use Rattle.pb_script.specs.declared.line.Line.{Line}
 use Rattle.pb_machine.specs.States.{FamilyState}

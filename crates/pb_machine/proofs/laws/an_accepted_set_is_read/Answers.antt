@@ -1,4 +1,4 @@
-use Rattle.std.proofs.Common.{rules, ◌≡◌, ℕ, ◌==◌, List, Some, cond, if◌then◌else◌, ap, ◌∙◌}
+use Rattle.std.proofs.Common.{◌≡◌, ℕ, ◌==◌, Some, cond, if◌then◌else◌, ap, ◌∙◌}
 use Rattle.std.specs.FinMap.{get, get-insert}
 use Rattle.pb_keys.specs.KeyLaws.{key_cmp_total}
 use Rattle.pb_rows.specs.Changing.{Set as SetKey, after}

@@ -8,7 +8,7 @@ use Rattle.pb_keys.specs.Map.{Map}
 use Rattle.pb_script.specs.declared.command.Command.{Command}
 use Rattle.pb_script.specs.declared.command.Command.TheVariants as command
 use Rattle.pb_script.specs.declared.line.Line.{Line}
-use Rattle.pb_reply.specs.Refusals.{number_of}
+use Rattle.pb_reply.specs.Refusals.{refusal_number}
 use Rattle.pb_reply.specs.declared.refusal.Refusal.{Refusal}
 use Rattle.pb_reply.specs.declared.refusal.Refusal.TheVariants.{Busy, NotOpen, AlreadyOpen, Damaged, DiskFault, NoMemory}
 use Rattle.pb_reply.specs.declared.reply.Reply.{Reply}
@@ -177,11 +177,11 @@ opening_kind state ran =
     (λ _. cond_both (mark.refusal == 22) (Refused DiskFault) (unless_memory mark (Opened mark.count)) IsOfOpening (λ _. tt)
     (λ _. cond_both (mark.refusal == 24) (Refused NoMemory) (Opened mark.count) IsOfOpening (λ _. tt) (λ _. tt))))
 
-refused_some : (refusal : Refusal) → number_of refusal ≡ 0 → ⊥
+refused_some : (refusal : Refusal) → refusal_number refusal ≡ 0 → ⊥
 refused_some Busy e = omega (arith, e)
 refused_some refusal e = omega (arith, e)
 
-no_damage : (list : List (List ℕ)) (refusal : Refusal) (m : Map) → Finds list step.Open (Refused refusal) m → (n : ℕ) (l : Map) → Make list n l → number_of refusal ≡ 20 → ⊥
+no_damage : (list : List (List ℕ)) (refusal : Refusal) (m : Map) → Finds list step.Open (Refused refusal) m → (n : ℕ) (l : Map) → Make list n l → refusal_number refusal ≡ 20 → ⊥
 no_damage list (Damaged file) m found n l make is = found n l make
 no_damage list refusal m found n l make is = omega (arith, is)
 

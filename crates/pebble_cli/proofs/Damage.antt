@@ -8,7 +8,7 @@ use Rattle.std.proofs.lemmas.List.Folds.{list_any-append}
 use Rattle.pb_devices.specs.Contents.{Contents, MayLeave}
 use Rattle.pb_devices.specs.declared.trace.Mark.{Mark}
 use Rattle.pb_keys.specs.Map.{Map}
-use Rattle.pb_reply.specs.Refusals.{number_of}
+use Rattle.pb_reply.specs.Refusals.{refusal_number}
 use Rattle.pb_reply.specs.declared.refusal.Refusal.{Refusal}
 use Rattle.pb_reply.specs.declared.refusal.Refusal.TheVariants.{Busy, NotOpen, NumbersSpent, Damaged, DiskFault, NoMemory}
 use Rattle.pb_reply.specs.declared.reply.Reply.{Reply}
@@ -79,7 +79,7 @@ get_unspoilt state key ran =
     (λ _. no_damage ran.mark (looked_up (get state.history.map key)) (found_unspoilt (get state.history.map key)))
     (λ _ e. omega (arith, e))
 
-refused_damage : (list : List (List ℕ)) (refusal : Refusal) (m : Map) → number_of refusal ≡ 20 → Finds list step.Open (Refused refusal) m → (n : ℕ) (l : Map) → Make list n l → ⊥
+refused_damage : (list : List (List ℕ)) (refusal : Refusal) (m : Map) → refusal_number refusal ≡ 20 → Finds list step.Open (Refused refusal) m → (n : ℕ) (l : Map) → Make list n l → ⊥
 refused_damage list (Damaged file) m damage found = found
 refused_damage list refusal m damage found = absurd (omega (arith, damage))
 

@@ -2,25 +2,25 @@
 use Rattle.std.proofs.Common.{◌≡◌, ℕ, ◌<◌, ◌≤◌, Bool, true, false, List, [], ◌∷◌, length, Option, Some, None, nat_lt, cond, inl, inr, refl, sym, arith}
 use Rattle.std.proofs.lemmas.Bool.{cond-true, cond-false}
 use Rattle.std.proofs.lemmas.Bool.Decides.{nat_tests}
-use Rattle.pebble_cli.specs.Lines.{first_fault}
+use Rattle.pebble_cli.specs.Lines.{fault_line}
 use Rattle.pebble_cli.specs.Runs.{Task, usage, too_long, task_of_script, task_of_source, max_script, Ends, Prints, text_of}
 use Rattle.pb_reply.specs.declared.status.Status.TheVariants.{Memory, Read}
 use Rattle.pebble_cli.proofs.Progress.{no_part}
 
 -- a task that a source asks for
-pub task_short : (bytes : List ℕ) → length bytes ≤ max_script → task_of_script bytes (first_fault bytes) ≡ task_of_source bytes
-task_short bytes short = sym (cond-false (nat_lt max_script (length bytes)) too_long (task_of_script bytes (first_fault bytes)) (grind (arith, nat_tests, short)))
+pub task_short : (bytes : List ℕ) → length bytes ≤ max_script → task_of_script bytes (fault_line bytes) ≡ task_of_source bytes
+task_short bytes short = sym (cond-false (nat_lt max_script (length bytes)) too_long (task_of_script bytes (fault_line bytes)) (grind (arith, nat_tests, short)))
 
 pub task_long : (bytes : List ℕ) → max_script < length bytes → too_long ≡ task_of_source bytes
-task_long bytes long = sym (cond-true (nat_lt max_script (length bytes)) too_long (task_of_script bytes (first_fault bytes)) (grind (arith, nat_tests, long)))
+task_long bytes long = sym (cond-true (nat_lt max_script (length bytes)) too_long (task_of_script bytes (fault_line bytes)) (grind (arith, nat_tests, long)))
 
 pub memory_of_script : (bytes : List ℕ) (fault : Option ℕ) → Ends (task_of_script bytes fault) Memory []
 memory_of_script bytes None = record { due = inr (inl tt); each_mark = tt; named = tt; every_line = λ whole. absurd whole }
-memory_of_script bytes (Some place) = record { due = inr (inr refl); each_mark = tt; named = tt; every_line = λ whole. absurd whole }
+memory_of_script bytes (Some number) = record { due = inr (inr refl); each_mark = tt; named = tt; every_line = λ whole. absurd whole }
 
-pub memory_of_source : (bytes : List ℕ) (long : Bool) → Ends (cond long too_long (task_of_script bytes (first_fault bytes))) Memory []
+pub memory_of_source : (bytes : List ℕ) (long : Bool) → Ends (cond long too_long (task_of_script bytes (fault_line bytes))) Memory []
 memory_of_source bytes true = record { due = inr (inr refl); each_mark = tt; named = tt; every_line = λ whole. absurd whole }
-memory_of_source bytes false = memory_of_script bytes (first_fault bytes)
+memory_of_source bytes false = memory_of_script bytes (fault_line bytes)
 
 pub memory_of_words : (bytes : List ℕ) (asks : Bool) → Ends (cond asks (task_of_source bytes) usage) Memory []
 memory_of_words bytes true = memory_of_source bytes (nat_lt max_script (length bytes))
@@ -28,11 +28,11 @@ memory_of_words bytes false = record { due = inr refl; each_mark = tt; named = t
 
 read_of_script : (bytes : List ℕ) (fault : Option ℕ) → Ends (task_of_script bytes fault) Read []
 read_of_script bytes None = record { due = inr (inr refl); each_mark = tt; named = tt; every_line = λ whole. absurd whole }
-read_of_script bytes (Some place) = record { due = inr (inl refl); each_mark = tt; named = tt; every_line = λ whole. absurd whole }
+read_of_script bytes (Some number) = record { due = inr (inl refl); each_mark = tt; named = tt; every_line = λ whole. absurd whole }
 
-pub read_of_source : (bytes : List ℕ) (long : Bool) → Ends (cond long too_long (task_of_script bytes (first_fault bytes))) Read []
+pub read_of_source : (bytes : List ℕ) (long : Bool) → Ends (cond long too_long (task_of_script bytes (fault_line bytes))) Read []
 read_of_source bytes true = record { due = inr (inl refl); each_mark = tt; named = tt; every_line = λ whole. absurd whole }
-read_of_source bytes false = read_of_script bytes (first_fault bytes)
+read_of_source bytes false = read_of_script bytes (fault_line bytes)
 
 pub memory_prints : (task : Task) (before : List ℕ) (faults : ℕ) → Prints task Memory [] before before faults faults
 memory_prints task before faults = record {

@@ -11,6 +11,6 @@ pub mod Counting
 pub mod Progress
 pub mod Crash
 pub mod Early
-pub mod WholeScripts
+pub mod FaultLines
 pub mod Damage
 pub mod OneSet

@@ -1,19 +1,51 @@
 -- A command in the log, and in the map.
-use Rattle.std.proofs.Common.{◌≡◌, ℕ, ◌+◌, ◌⊎◌, inl, inr, List, [], ◌∷◌, ◌++◌, Option, Some, None, sym, ap, ◌∙◌, subst}
+use Rattle.std.proofs.Common.{◌≡◌, ℕ, ◌+◌, ◌⊎◌, inl, inr, List, [], ◌∷◌, ◌++◌, Option, Some, None, Ok, Err, refl, sym, ap, ◌∙◌, subst}
 use Rattle.std.specs.FinMap.{insert}
+use Rattle.pb_devices.specs.BeforeOrAfter.{IsBeforeOrAfter}
 use Rattle.pb_devices.specs.Contents.{Contents, MayLeave}
+use Rattle.pb_devices.proofs.Kept.{kept_same}
+use Rattle.pb_gate_log.specs.Calls.{Appends}
 use Rattle.pb_gate_log.proofs.LogStates.{each_has}
-use Rattle.pb_gate_log.specs.EachLog.{EachLog}
+use Rattle.pb_gate_log.specs.EachLog.{LogPlace, EachLog}
 use Rattle.pb_gate_log.specs.Payloads.{HasList, payloads_in}
 use Rattle.pebble_cli.specs.Settings.{Set, IsSet, payload_of}
 use Rattle.pb_keys.specs.Map.{Map}
-use Rattle.pebble_cli.specs.Store.{Held}
-use Rattle.pebble_cli.specs.Folder.{log_name, Make, KeepsLog}
+use Rattle.pebble_cli.specs.Store.{Held, with_pair}
+use Rattle.pebble_cli.specs.Folder.{log_name, KeepsLog, LeavesHeld, Make}
 use Rattle.pebble_cli.proofs.SetFacts.{make_more}
 
 has_payloads : (list : List (List ℕ)) (image : Option (List ℕ)) → HasList list image → payloads_in image ≡ list
 has_payloads list None has = absurd has
 has_payloads list (Some bytes) has = has
+
+-- nothing was appended
+pub appends_nothing : {T E : Type 0} (log : LogPlace) (payload : List ℕ) (disk : Contents) (error : E) → Appends log log payload disk disk {T = T} {E = E} (Err error)
+appends_nothing log payload disk error = record {
+  file = refl;
+  same = refl;
+  ok = λ list each. tt;
+  crash = λ list image each left. inl (each_has log list disk each image left);
+  others = kept_same disk log.file;
+}
+
+-- told by another error, or with another answer
+pub appends_err : {T E U F : Type 0} (log log' : LogPlace) (payload : List ℕ) (old new : Contents) (error : E) (other : F) → Appends log log' payload old new {T = T} {E = E} (Err error) → Appends log log' payload old new {T = U} {E = F} (Err other)
+appends_err log log' payload old new error other appends = record {
+  file = appends.file;
+  same = appends.same;
+  ok = appends.ok;
+  crash = appends.crash;
+  others = appends.others;
+}
+
+pub appends_ok : {T E U F : Type 0} (log log' : LogPlace) (payload : List ℕ) (old new : Contents) (done : T) (other : U) → Appends log log' payload old new {T = T} {E = E} (Ok done) → Appends log log' payload old new {T = U} {E = F} (Ok other)
+appends_ok log log' payload old new done other appends = record {
+  file = appends.file;
+  same = appends.same;
+  ok = appends.ok;
+  crash = appends.crash;
+  others = appends.others;
+}
 
 abbrev pub next_set : Held → List ℕ → List ℕ → Set
 next_set held key value = record { count = held.count + 1; key = key; value = value }
@@ -33,7 +65,7 @@ logged held new payload key value old disk keeps file count map spelled is each 
 
 pub left_logged : (held : Held) (payload key value : List ℕ) (old : Contents) (image : Option (List ℕ)) → (keeps : KeepsLog held old) → payload ≡ payload_of (next_set held key value) → IsSet (next_set held key value)
     → HasList keeps.list image ⊎ HasList (keeps.list ++ payload ∷ []) image
-    → Make (payloads_in image) held.count held.map ⊎ Make (payloads_in image) (held.count + 1) (insert held.map key value)
+    → IsBeforeOrAfter (LeavesHeld image) held (with_pair held key value)
 left_logged held payload key value old image keeps spelled is left =
     elim left [
       | inl has ↦ inl (subst (λ (l : List (List ℕ)). Make l held.count held.map) (sym (has_payloads keeps.list image has)) keeps.makes)
@@ -44,9 +76,9 @@ left_logged held payload key value old image keeps spelled is left =
 
 pub left_held : (held self : Held) (payload key value : List ℕ) (old : Contents) (image : Option (List ℕ)) → held ≡ self → (keeps : KeepsLog held old) → payload ≡ payload_of (next_set held key value) → IsSet (next_set held key value)
     → HasList keeps.list image ⊎ HasList (keeps.list ++ payload ∷ []) image
-    → Make (payloads_in image) self.count self.map ⊎ Make (payloads_in image) (self.count + 1) (insert self.map key value)
+    → IsBeforeOrAfter (LeavesHeld image) self (with_pair self key value)
 left_held held self payload key value old image same keeps spelled is left =
-    subst (λ (h : Held). Make (payloads_in image) h.count h.map ⊎ Make (payloads_in image) (h.count + 1) (insert h.map key value)) same
+    subst (λ (h : Held). IsBeforeOrAfter (LeavesHeld image) h (with_pair h key value)) same
     (left_logged held payload key value old image keeps spelled is left)
 
 -- an open store holds what each image stands for

@@ -1,5 +1,5 @@
 -- What the headline says of `open A` and `A set a 1` over a folder without a log, where no line was refused.
-use Rattle.std.proofs.Common.{◌≡◌, ℕ, ◌+◌, ◌==◌, Bool, true, false, not, ◌||◌, if◌then◌else◌, List, [], ◌∷◌, length, Option, None, Some, ◌⊎◌, inl, inr, codes, refl, sym, ap, ◌∙◌, subst, arith}
+use Rattle.std.proofs.Common.{◌≡◌, ℕ, ◌+◌, ◌==◌, Bool, true, false, not, ◌||◌, if◌then◌else◌, List, [], ◌∷◌, length, Option, None, ◌⊎◌, inl, inr, codes, refl, sym, ap, ◌∙◌, subst, arith}
 use Rattle.std.specs.FinMap.{empty, insert, get, get-empty}
 use Rattle.std.specs.Cmp.Lexicographic.{slice_cmp}
 use Rattle.std.specs.Ordering.{nat_cmp}
@@ -17,12 +17,11 @@ use Rattle.pebble_cli.specs.Headline.{Headline, IsGood, IsHeld, MayStandFor, of_
 use Rattle.pb_script.specs.declared.command.Command.TheVariants.{Set}
 use Rattle.pb_script.specs.declared.line.Line.{Line}
 use Rattle.pb_script.specs.declared.line.Line.TheVariants.{Open, Whole}
-use Rattle.pb_script.specs.Answers.{◌>>=◌, ◌>>◌}
 use Rattle.pb_script.specs.Strings.{bytes_of, string_of}
 use Rattle.pb_script.specs.Fields.{word_at, string_at, store_at, pair_at, at_end}
 use Rattle.pb_script.specs.Commands.{set_of, command_of, command_named}
 use Rattle.pb_script.specs.Lines.{store_alone, open_of, whole_named, family_line, line_named, line_of}
-use Rattle.pb_script.specs.Script.{said, step, read_texts, lines_of}
+use Rattle.pb_script.specs.Script.{said, step, numbered_from, numbered}
 use Rattle.pb_machine.specs.States.{StoreState, start, unopened}
 use Rattle.pb_machine.specs.Marks.{Ran}
 use Rattle.pb_machine.specs.Stores.{changing_of, changed_by, opened_by, opening_after, command_after}
@@ -126,7 +125,7 @@ one_set_runs task status marks a b Printed before now is new comes causes done f
     (ap status_of (sym here.marked) ∙ sym (causes.ranked whole) ∙ done) (no_log a new) (here.left refl (new_is_good a new)) folder image
 
 one_set_script : task_of (codes "run" ∷ []) (codes "open A\nA set a 1\n") ≡ script one_set
-unfolding lines_of read_texts step said line_of line_named open_of store_alone store_at word_at at_end family_line whole_named command_of command_named set_of pair_at string_at string_of bytes_of
+unfolding numbered numbered_from step said line_of line_named open_of store_alone store_at word_at at_end family_line whole_named command_of command_named set_of pair_at string_at string_of bytes_of
 one_set_script = refl
 
 pub one_set_task : (word left : List ℕ) → word ≡ codes "run" → left ≡ codes "open A\nA set a 1\n" → task_of (word ∷ []) left ≡ script one_set

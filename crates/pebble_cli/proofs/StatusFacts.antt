@@ -4,7 +4,7 @@ use Rattle.std.specs.Prelude.{nat_le}
 use Rattle.std.specs.List.{list_any}
 use Rattle.std.proofs.lemmas.List.Folds.{list_any-append}
 use Rattle.pb_devices.specs.declared.trace.Mark.{Mark}
-use Rattle.pb_reply.specs.Refusals.{number_of}
+use Rattle.pb_reply.specs.Refusals.{refusal_number}
 use Rattle.pb_reply.specs.Statuses.{IsRunStatus, place, first_status, status_alone, status_of_refusal}
 use Rattle.pb_reply.specs.declared.refusal.Refusal.{Refusal}
 use Rattle.pb_reply.specs.declared.refusal.Refusal.TheVariants.{Busy, NoMemory, DiskFault, BucketFault, Damaged as DamagedFile}
@@ -20,7 +20,7 @@ use Rattle.pebble_cli.specs.StoreStates.{mark_in, TellsFault}
 abbrev by_tests : Bool → Bool → Bool → Bool → Status
 by_tests memory device damage refused = if memory then Memory else if device then Device else if damage then Damaged else if refused then Refused else Success
 
-refusal_alone : (refusal : Refusal) → status_of_refusal refusal ≡ by_tests (number_of refusal == 24) (number_of refusal == 22 || number_of refusal == 23) (number_of refusal == 20) (not (number_of refusal == 0))
+refusal_alone : (refusal : Refusal) → status_of_refusal refusal ≡ by_tests (refusal_number refusal == 24) (refusal_number refusal == 22 || refusal_number refusal == 23) (refusal_number refusal == 20) (not (refusal_number refusal == 0))
 refusal_alone Busy = refl
 refusal_alone refusal = refl
 

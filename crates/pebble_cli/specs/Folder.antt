@@ -32,6 +32,10 @@ pub record KeepsLog (held : Held) (disk : Contents) : Type 0 where
   pub log : EachLog held.log list disk
   pub makes : Make list held.count held.map
 
+-- an image of the log stands for what is held
+abbrev pub LeavesHeld : Option (List ℕ) → Held → Type 0
+LeavesHeld image held = Make (payloads_in image) held.count held.map
+
 -- an image of the log has the payloads of one that there was
 abbrev pub HasFrom : Contents → Option (List ℕ) → Type 0
 HasFrom disk image = (other : Option (List ℕ)) × MayLeave disk log_name other × (payloads_in image ≡ payloads_in other)

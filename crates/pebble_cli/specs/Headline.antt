@@ -1,8 +1,9 @@
 -- No stop and no fault loses an accepted command: the history of a store, against the images of its folder.
-use Rattle.std.specs.Prelude.{◌≡◌, ◌≢◌, ℕ, ◌+◌, MatchBool, ◌⊎◌, List, [], ◌∷◌, Option, IsSomeAnd}
+use Rattle.std.specs.Prelude.{◌≡◌, ◌≢◌, ℕ, ◌+◌, MatchBool, List, [], ◌∷◌, Option, Some, None}
+use Rattle.pb_devices.specs.BeforeOrAfter.{IsBeforeOrAfter}
 use Rattle.pb_devices.specs.Contents.{Contents, Folder, IsImage, MayLeave}
 use Rattle.pb_keys.specs.Map.{Map}
-use Rattle.pb_rows.specs.Changing.{after}
+use Rattle.pb_rows.specs.Changing.{Changing, after}
 use Rattle.pb_script.specs.declared.line.Line.{Line}
 use Rattle.pb_script.specs.declared.line.Line.TheVariants.{Open}
 use Rattle.pb_machine.specs.States.{History, StoreState, FamilyState, start, is_open}
@@ -29,12 +30,14 @@ IsSpoilt disk = (image : Option (List ℕ)) × MayLeave disk log_name image × (
 abbrev pub IsAccepted : History → ℕ → Map → Type 0
 IsAccepted history n m = (n ≡ history.count) × (m ≡ history.map)
 
--- these and the pending one made them
-abbrev pub IsWithPending : History → ℕ → Map → Type 0
-IsWithPending history n m = IsSomeAnd history.pending (λ change. (n ≡ history.count + 1) × (m ≡ after history.map change))
+-- a history with the command accepted that was pending
+abbrev pub accepted_too : History → Option Changing → History
+accepted_too history None = history
+accepted_too history (Some change) = record history { count = history.count + 1; map = after history.map change; pending = None }
 
+-- the accepted commands made them, or these and the pending one
 abbrev pub IsHistory : History → ℕ → Map → Type 0
-IsHistory history n m = IsAccepted history n m ⊎ IsWithPending history n m
+IsHistory history n m = IsBeforeOrAfter (λ accepted. IsAccepted accepted n m) history (accepted_too history history.pending)
 
 -- what a folder that isn't open may stand for: the history, and before it began what some image stood for at entry
 abbrev pub IsKept : Contents → History → ℕ → Map → Type 0

@@ -3,10 +3,10 @@ pub mod Usage
 pub mod Lines
 pub mod Steps
 pub mod Store
+pub mod Faults
 pub mod Settings
 pub mod Folder
 pub mod StoreStates
 pub mod Texts
 pub mod Runs
 pub mod Headline
-pub mod HostDisk

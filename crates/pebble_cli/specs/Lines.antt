@@ -1,8 +1,7 @@
 -- Which lines of a script are built, and what a script says of them.
-use Rattle.std.specs.Prelude.{ℕ, Bool, false, ◌&&◌, ◌==◌, if◌then◌else◌, List, [], Option, Some, None, is_none, unwrap_or}
-use Rattle.std.specs.List.{flat_map, list_all, position_from}
-use Rattle.pb_script.specs.Script.{ScriptRead, Lines, Fault, lines_of}
-use Rattle.pb_script.specs.Texts.{texts_of}
+use Rattle.std.specs.Prelude.{ℕ, Bool, false, ◌&&◌, ◌==◌, if◌then◌else◌, List, [], ◌∷◌, Option, Some, None}
+use Rattle.std.specs.Option.{option_or}
+use Rattle.pb_script.specs.Script.{NumberedRead, numbered, without_numbers}
 use Rattle.pb_script.specs.declared.command.Command.TheVariants.{Set, Get}
 use Rattle.pb_script.specs.declared.line.Line.{Line}
 use Rattle.pb_script.specs.declared.line.Line.TheVariants.{Open, Whole}
@@ -19,22 +18,20 @@ is_built (Whole store (Set key value)) = store == store_a && is_word key && is_w
 is_built (Whole store (Get key)) = store == store_a && is_word key
 is_built line = false
 
-abbrev pub built_lines : ScriptRead → Option (List Line)
-built_lines (Lines lines) = if list_all is_built lines then Some lines else None
-built_lines (Fault number) = None
+-- the number of the first line that isn't built
+abbrev pub first_unbuilt : List (ℕ × Line) → Option ℕ
+first_unbuilt [] = None
+first_unbuilt (line ∷ lines) = if is_built line.1 then first_unbuilt lines else Some line.0
 
--- the line that a text says, as a script of its own, and none where it is skipped. Nothing where the text is off the grammar,
--- begins a block, or says a line that isn't built
-abbrev pub said_by : List ℕ → Option (List Line)
-said_by text = built_lines (lines_of text)
+-- the first text that is off the grammar or not built. Where there are several kinds, they come in this order: the lines stand before the
+-- fault, and a block that the fault lies in begins before it, and isn't built
+abbrev pub fault_of : NumberedRead → Option ℕ
+fault_of read = option_or (first_unbuilt read.lines) (option_or read.within read.fault)
 
-abbrev pub is_fault : List ℕ → Bool
-is_fault text = is_none (said_by text)
-
--- the place of the first text that is off the grammar or not built, counted from 0
-abbrev pub first_fault : List ℕ → Option ℕ
-first_fault script = position_from is_fault 0 (texts_of script)
+-- its number, counted from 1
+abbrev pub fault_line : List ℕ → Option ℕ
+fault_line script = fault_of (numbered script)
 
 -- the lines of a script that has no fault
-abbrev pub due_lines : List ℕ → List Line
-due_lines script = flat_map (λ text. unwrap_or (said_by text) []) (texts_of script)
+abbrev pub lines_of_script : List ℕ → List Line
+lines_of_script script = without_numbers (numbered script).lines

@@ -1,5 +1,5 @@
 -- What a run comes to: its task, its status, and what it prints.
-use Rattle.std.specs.Prelude.{◌≡◌, ℕ, ◌+◌, ◌≤◌, Bool, false, not, ◌==◌, ◌||◌, nat_lt, if◌then◌else◌, ◌⊎◌, List, [], ◌∷◌, ◌++◌, length, take, map, Option, Some, None, flat_map, codes}
+use Rattle.std.specs.Prelude.{◌≡◌, ℕ, ◌≤◌, Bool, not, ◌==◌, ◌||◌, nat_lt, if◌then◌else◌, ◌⊎◌, List, [], ◌++◌, length, take, map, Option, Some, None, flat_map}
 use Rattle.std.specs.List.{AllByRecursion, list_any}
 use Rattle.pb_devices.specs.Counts.{Rose}
 use Rattle.pb_devices.specs.declared.trace.Mark.{Mark}
@@ -12,7 +12,7 @@ use Rattle.pb_machine.specs.States.{start}
 use Rattle.pb_machine.specs.Marks.{Ran}
 use Rattle.pb_machine.specs.Runs.{AreRan, replies}
 use Rattle.pebble_cli.specs.Folder.{log_name}
-use Rattle.pebble_cli.specs.Lines.{first_fault, due_lines}
+use Rattle.pebble_cli.specs.Lines.{fault_line, lines_of_script}
 use Rattle.pebble_cli.specs.Texts.{usage_text, too_long_text, fault_text}
 
 -- the longest script, in bytes: 16 MiB
@@ -27,12 +27,12 @@ pub data Task : Type 0 where
   script : List Line → Task
 
 abbrev pub task_of_script : List ℕ → Option ℕ → Task
-task_of_script bytes None = script (due_lines bytes)
-task_of_script bytes (Some place) = fault (place + 1)
+task_of_script bytes None = script (lines_of_script bytes)
+task_of_script bytes (Some number) = fault number
 
 -- in this order: the length of the script, its first line that is off the grammar or not built
 abbrev pub task_of_source : List ℕ → Task
-task_of_source bytes = if nat_lt max_script (length bytes) then too_long else task_of_script bytes (first_fault bytes)
+task_of_source bytes = if nat_lt max_script (length bytes) then too_long else task_of_script bytes (fault_line bytes)
 
 -- the words come first
 abbrev pub task_of : List (List ℕ) → List ℕ → Task

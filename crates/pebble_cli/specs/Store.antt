@@ -1,5 +1,5 @@
 -- What an open store holds in memory.
-use Rattle.std.specs.Prelude.{ℕ, List, Option, Some, None, refl}
+use Rattle.std.specs.Prelude.{ℕ, ◌+◌, List, Option, Some, None, refl}
 use Rattle.std.specs.Coded.{Coded, code_by, coded×, coded_list, coded_ℕ}
 use Rattle.std.specs.FinMap.{code, insert}
 use Rattle.pb_keys.specs.Map.{Map}
@@ -16,6 +16,10 @@ pub record Held : Type 0 where
   -- how many commands were accepted
   pub count : ℕ
   pub map : Map
+
+-- one command more, which sets a pair
+abbrev pub with_pair : Held → List ℕ → List ℕ → Held
+with_pair held key value = record held { count = held.count + 1; map = insert held.map key value }
 
 -- it is stored as the tuple of its fields
 abbrev pub held_code : Coded Held

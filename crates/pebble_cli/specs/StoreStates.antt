@@ -1,7 +1,9 @@
 -- A store in memory, and what a step does to the images of its folder.
-use Rattle.std.specs.Prelude.{◌≡◌, ℕ, ◌+◌, Bool, true, false, ◌⊎◌, List, ◌∷◌, Option, replicate}
-use Rattle.std.specs.FinMap.{empty, insert}
+use Rattle.std.specs.Prelude.{◌≡◌, ℕ, Bool, true, false, List, ◌∷◌, Option, Err, replicate}
+use Rattle.std.specs.FinMap.{empty}
+use Rattle.pb_devices.specs.BeforeOrAfter.{IsBeforeOrAfter}
 use Rattle.pb_devices.specs.Contents.{Contents}
+use Rattle.pb_devices.specs.Counts.{HasCauseAs}
 use Rattle.pb_devices.specs.declared.trace.Mark.{Mark}
 use Rattle.pb_gate_log.specs.declared.gate_log.AppendError.{AppendError}
 use Rattle.pb_gate_log.specs.declared.gate_log.AppendError.TheVariants.{Failed, TooLarge}
@@ -12,8 +14,8 @@ use Rattle.pb_reply.specs.declared.reply.Reply.{Reply}
 use Rattle.pb_reply.specs.declared.reply.Reply.TheVariants as reply
 use Rattle.pb_machine.specs.States.{StoreState, is_open, is_down}
 use Rattle.pb_machine.specs.Marks.{Ran, refusal_of, count_of, has_more}
-use Rattle.pb_gate_log.specs.Payloads.{payloads_in}
-use Rattle.pebble_cli.specs.Folder.{log_name, Make, KeepsLog}
+use Rattle.pebble_cli.specs.Folder.{log_name, Make, KeepsLog, LeavesHeld}
+use Rattle.pebble_cli.specs.Store.{with_pair}
 use Rattle.pebble_cli.specs.declared.step.Step.{Step}
 use Rattle.pebble_cli.specs.declared.step.Step.TheVariants as step
 use Rattle.pebble_cli.specs.declared.store.Store.{Store}
@@ -68,6 +70,10 @@ TellsFault (reply.Refused refusal.DiskFault) = Unit {0}
 TellsFault (reply.Refused refusal.BucketFault) = Unit {0}
 TellsFault reply = ⊥
 
+-- a fault is told only where the count of faults rose; else the count is as before
+abbrev pub HasReplyCause : ℕ → ℕ → Reply → Type 0
+HasReplyCause before now reply = HasCauseAs {T = Unit {0}} TellsFault before now (Err reply)
+
 -- an opening finds what reads gave of the log
 abbrev pub Finds : List (List ℕ) → Step → Reply → Map → Type 0
 Finds list step.Open (reply.Opened n) m = Make list n m
@@ -77,5 +83,5 @@ Finds list step reply m = Unit {0}
 -- a `set` of an open store left the accepted commands in this image, or these and its own
 abbrev pub IsSetBy : Store → Step → Option (List ℕ) → Type 0
 IsSetBy (Open held) (step.Set key value) image =
-    Make (payloads_in image) held.count held.map ⊎ Make (payloads_in image) (held.count + 1) (insert held.map key value)
+    IsBeforeOrAfter (LeavesHeld image) held (with_pair held key value)
 IsSetBy store step image = ⊥

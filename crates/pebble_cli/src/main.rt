@@ -1,7 +1,6 @@
 //! A store at the command line: reads a script from standard input, runs it, and prints the replies.
 #![tactic(auto)]
 
-mod host;
 mod lines;
 mod mark;
 mod open_log;
@@ -18,8 +17,8 @@ mod usage;
 mod word;
 mod words;
 
-use host::{HostDisk, HostIn, HostOut};
 use pb_devices::Trace;
+use pb_host::{HostDisk, HostIn, HostOut};
 use pb_mem::MemBucket;
 use pb_reply::Status;
 use run::run;

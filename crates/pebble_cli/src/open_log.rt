@@ -1,8 +1,8 @@
-ghost use Rattle.std.specs.Prelude.{◌≡◌, ℕ, ◌<◌, ◌≤◌, ◌^◌, ◌⊎◌, true, List, Option, Err, IfOk, IfErr};
-ghost use Rattle.pb_devices.specs.Contents.{IsSettled, MayLeave};
-ghost use Rattle.pb_devices.specs.Counts.{Rose};
-ghost use Rattle.pb_gate_log.specs.EachLog.{EachLog};
-ghost use Rattle.pb_gate_log.specs.Payloads.{payloads_in};
+ghost use Rattle.std.specs.Prelude.{◌≡◌, ℕ, ◌<◌, ◌≤◌, ◌^◌, ◌⊎◌, true, Err, IfOk, IfErr};
+ghost use Rattle.pb_devices.specs.Contents.{IsSettled};
+ghost use Rattle.pb_devices.specs.Counts.{HasCauseAs};
+ghost use Rattle.pb_gate_log.specs.Calls.{IsOpenedOrMade, OpensOrMakes};
+ghost use Rattle.pebble_cli.specs.Faults.{IsStoreFault};
 ghost use Rattle.pebble_cli.specs.Folder.{log_name, Make, IsRead};
 ghost use Rattle.pebble_cli.specs.Settings.{Set, IsSet, payload_of};
 ghost use Rattle.pb_keys.specs.Map.{Map};
@@ -20,14 +20,11 @@ use std::alloc::Global;
 /// Opens the log of a store, or makes it where there is none, and gives its payloads. Nothing of it may be pending.
 pub fn open_log<D: Disk>(alloc: Global, disk: &mut D) -> Result<(GateLog, Vec<Bytes>), StoreError>
     requires { D.told ≡ true → IsSettled (D.contents disk.old) log_name }
-    ensures file { IfOk result (λ opened. opened.0.file ≡ log_name) }
-    ensures list { D.told ≡ true → IfOk result (λ opened. opened.1.items ≡ payloads_in ((D.contents disk.old).seen log_name)) }
-    ensures log { D.told ≡ true → IfOk result (λ opened. EachLog opened.0 opened.1.items (D.contents disk.new)) }
-    ensures crash { D.told ≡ true → (image : Option (List ℕ)) → MayLeave (D.contents disk.new) log_name image
-        → payloads_in image ≡ payloads_in ((D.contents disk.old).seen log_name) }
+    ensures ok { D.told ≡ true → IfOk result (λ opened.
+        IsOpenedOrMade log_name opened.1.items opened.0 (D.contents disk.old) (D.contents disk.new)) }
+    ensures opens { D.told ≡ true → OpensOrMakes log_name (D.contents disk.old) (D.contents disk.new) }
     ensures known { IfErr result (λ refusal. (refusal ≡ StoreError.DiskFault) ⊎ (refusal ≡ StoreError.NoMemory)) }
-    ensures later { D.fault_count disk.old ≤ D.fault_count disk.new }
-    ensures fault { result ≡ Err StoreError.DiskFault → Rose (D.fault_count disk.old) (D.fault_count disk.new) }
+    ensures cause { HasCauseAs IsStoreFault (D.fault_count disk.old) (D.fault_count disk.new) result }
 {
     match open_or_create(alloc, disk, file(FileKind::Log, 3)) {
         Ok(opened) => Ok(opened),

@@ -1,9 +1,12 @@
 ghost use Rattle.std.specs.Prelude.{◌≡◌, ◌↔◌, ℕ, ◌+◌, ◌<◌, ◌≤◌, ◌^◌, ◌⊎◌, true, List, Option, Err, IfOk, IfErr, OnOk, OnErr, option_copied};
 ghost use Rattle.std.specs.FinMap.{get, insert};
+ghost use Rattle.pb_devices.specs.BeforeOrAfter.{IsBeforeOrAfter};
 ghost use Rattle.pb_devices.specs.Contents.{MayLeave};
-ghost use Rattle.pb_devices.specs.Counts.{Rose};
+ghost use Rattle.pb_devices.specs.Counts.{HasCauseAs};
 ghost use Rattle.pb_gate_log.specs.Payloads.{payloads_in};
-ghost use Rattle.pebble_cli.specs.Folder.{log_name, HasFrom, KeepsLog, Make};
+ghost use Rattle.pebble_cli.specs.Faults.{IsStoreFault};
+ghost use Rattle.pebble_cli.specs.Folder.{log_name, HasFrom, KeepsLog, LeavesHeld, Make};
+ghost use Rattle.pebble_cli.specs.Store.{with_pair};
 ghost use Rattle.pb_keys.specs.Map.{Map};
 
 use crate::open_log::{open_log, read_sets};
@@ -48,8 +51,7 @@ impl Opened {
         ensures crash { D.told ≡ true → (image : Option (List ℕ)) → MayLeave (D.contents disk.new) log_name image
             → HasFrom (D.contents disk.old) image }
         ensures known { IfErr result (λ refusal. (refusal ≡ StoreError.Damaged) ⊎ (refusal ≡ StoreError.DiskFault) ⊎ (refusal ≡ StoreError.NoMemory)) }
-        ensures later { D.fault_count disk.old ≤ D.fault_count disk.new }
-        ensures fault { result ≡ Err StoreError.DiskFault → Rose (D.fault_count disk.old) (D.fault_count disk.new) }
+        ensures cause { HasCauseAs IsStoreFault (D.fault_count disk.old) (D.fault_count disk.new) result }
     {
         disk.barrier()?;
         let (log, payloads) = open_log(alloc, disk)?;
@@ -75,12 +77,10 @@ impl Opened {
         ensures spent { (result ≡ Err StoreError.NumbersSpent) ↔ (2 ^ 62 ≤ self.old.count + 1) }
         ensures same { OnErr result (self.new ≡ self.old) }
         ensures crash { D.told ≡ true → (image : Option (List ℕ)) → result ≡ Err StoreError.DiskFault → MayLeave (D.contents disk.new) log_name image
-            → Make (payloads_in image) self.old.count self.old.map
-            ⊎ Make (payloads_in image) (self.old.count + 1) (insert self.old.map key value) }
+            → IsBeforeOrAfter (LeavesHeld image) self.old (with_pair self.old key value) }
         ensures known { OnErr result ((result ≡ Err StoreError.DiskFault)
             ⊎ (((result ≡ Err StoreError.NumbersSpent) ⊎ (result ≡ Err StoreError.NoMemory)) × (disk.new ≡ disk.old))) }
-        ensures later { D.fault_count disk.old ≤ D.fault_count disk.new }
-        ensures fault { result ≡ Err StoreError.DiskFault → Rose (D.fault_count disk.old) (D.fault_count disk.new) }
+        ensures cause { HasCauseAs IsStoreFault (D.fault_count disk.old) (D.fault_count disk.new) result }
     {
         if self.count + 1 >= COUNTS {
             return Err(StoreError::NumbersSpent);

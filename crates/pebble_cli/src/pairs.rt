@@ -1,10 +1,10 @@
-ghost use Rattle.std.specs.Prelude.{◌≡◌, ℕ, ◌≤◌, ◌++◌, ◌∷◌, ◌⊎◌, [], true, List, Option, Err, IfErr, OnOk, OnErr, option_copied};
+ghost use Rattle.std.specs.Prelude.{◌≡◌, ℕ, ◌⊎◌, true, List, Err, IfErr, OnOk, OnErr, option_copied};
 ghost use Rattle.pb_keys.specs.Key.{key_cmp};
 ghost use Rattle.std.specs.FinMap.{empty, from_entries, get, insert};
-ghost use Rattle.pb_devices.specs.Contents.{MayLeave};
-ghost use Rattle.pb_devices.specs.Counts.{Rose};
+ghost use Rattle.pb_devices.specs.Counts.{HasCauseAs};
+ghost use Rattle.pb_gate_log.specs.Calls.{Appends};
 ghost use Rattle.pb_gate_log.specs.EachLog.{EachLog};
-ghost use Rattle.pb_gate_log.specs.Payloads.{HasList};
+ghost use Rattle.pebble_cli.specs.Faults.{IsStoreFault};
 ghost use Rattle.pebble_cli.specs.Store.{with_last};
 
 use crate::store_error::StoreError;
@@ -87,15 +87,9 @@ impl Pairs {
         requires { D.told ≡ true → (list : List (List ℕ)) × EachLog log.old list (D.contents disk.old) }
         ensures map { OnOk result (self.new ≡ insert self.old key value) }
         ensures same { OnErr result ((self.new ≡ self.old) × (log.new ≡ log.old)) }
-        ensures file { log.new.file ≡ log.old.file }
-        ensures ok { D.told ≡ true → (list : List (List ℕ)) → EachLog log.old list (D.contents disk.old)
-            → OnOk result (EachLog log.new (list ++ payload.now ∷ []) (D.contents disk.new)) }
-        ensures crash { D.told ≡ true → (list : List (List ℕ)) (image : Option (List ℕ))
-            → EachLog log.old list (D.contents disk.old) → MayLeave (D.contents disk.new) log.old.file image
-            → HasList list image ⊎ HasList (list ++ payload.now ∷ []) image }
+        ensures appends { D.told ≡ true → Appends log.old log.new payload.now (D.contents disk.old) (D.contents disk.new) result }
         ensures known { OnErr result ((result ≡ Err StoreError.DiskFault) ⊎ ((result ≡ Err StoreError.NoMemory) × (disk.new ≡ disk.old))) }
-        ensures later { D.fault_count disk.old ≤ D.fault_count disk.new }
-        ensures fault { result ≡ Err StoreError.DiskFault → Rose (D.fault_count disk.old) (D.fault_count disk.new) }
+        ensures cause { HasCauseAs IsStoreFault (D.fault_count disk.old) (D.fault_count disk.new) result }
     {
         if !settle(&mut self.by_key, &mut self.last) {
             return Err(StoreError::NoMemory);

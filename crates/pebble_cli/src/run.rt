@@ -1,14 +1,14 @@
 ghost use Rattle.std.specs.Prelude.{◌≡◌, ◌+◌, ◌≤◌, ◌++◌, ◌∷◌, ◌⊎◌, ◌≢◌, [], true, List, length, map, string_bytes, MatchBool, Option, ℕ};
 ghost use Rattle.pb_devices.specs.Contents.{MayLeave};
 ghost use Rattle.pb_devices.specs.Counts.{Rose};
-ghost use Rattle.pebble_cli.specs.Lines.{first_fault};
+ghost use Rattle.pebble_cli.specs.Lines.{fault_line};
 ghost use Rattle.pb_gate_log.specs.Payloads.{payloads_in};
 ghost use Rattle.pebble_cli.specs.Folder.{log_name, HasFrom};
 ghost use Rattle.pebble_cli.specs.Headline.{Headline, IsGood, IsSpoilt};
 ghost use Rattle.pb_machine.specs.States.{StoreState};
 ghost use Rattle.pebble_cli.specs.Steps.{as_line, step_after, step_reply};
 ghost use Rattle.pebble_cli.specs.Usage.{is_run};
-ghost use Rattle.pebble_cli.specs.StoreStates.{IsIn, Keeps, Finds, IsSetBy, TellsFault, map_in, ran_of};
+ghost use Rattle.pebble_cli.specs.StoreStates.{IsIn, Keeps, Finds, HasReplyCause, IsSetBy, map_in, ran_of};
 ghost use Rattle.pebble_cli.specs.Runs.{script as script_task, fault, usage, task_of, task_of_source, task_of_script, lines_due, has_damage, IsReadWhole, IsWhole, IsCutShort, IsBeforeLines, Ends, Prints, Causes, Comes};
 
 use crate::lines::read_lines;
@@ -124,11 +124,11 @@ fn run_script<O: Sink, D: Disk>(
     trace: &mut Trace,
 ) -> Status
     requires { trace.old.marks ≡ [] }
-    ensures comes { Comes (task_of_script script.now (first_fault script.now)) result trace.new.marks
-        (λ ran. O.told ≡ true → Prints (task_of_script script.now (first_fault script.now)) result ran
+    ensures comes { Comes (task_of_script script.now (fault_line script.now)) result trace.new.marks
+        (λ ran. O.told ≡ true → Prints (task_of_script script.now (fault_line script.now)) result ran
         (O.taken out.old) (O.taken out.new) (O.fault_count out.old) (O.fault_count out.new))
         (λ ran. D.told ≡ true → IsGood (D.contents disk.old)
-        → Headline (D.contents disk.old) (D.contents disk.new) (lines_due (task_of_script script.now (first_fault script.now))) ran) }
+        → Headline (D.contents disk.old) (D.contents disk.new) (lines_due (task_of_script script.now (fault_line script.now))) ran) }
     ensures usage { (result ≢ Status.Usage) × (result ≢ Status.Read) × (result ≢ Status.TooLong) }
     ensures causes { Causes result trace.new.marks (O.fault_count out.old) (O.fault_count out.new) }
     ensures device { result ≡ Status.Device → Rose (D.fault_count disk.old) (D.fault_count disk.new) }
@@ -207,8 +207,7 @@ fn run_step<D: Disk>(
     ensures found { D.told ≡ true → Finds (payloads_in ((D.contents disk.old).seen log_name)) step result (map_in store.new) }
     ensures crash { D.told ≡ true → (image : Option (List ℕ)) → MayLeave (D.contents disk.new) log_name image
         → HasFrom (D.contents disk.old) image ⊎ IsSetBy store.old step image }
-    ensures later { D.fault_count disk.old ≤ D.fault_count disk.new }
-    ensures fault { TellsFault result → Rose (D.fault_count disk.old) (D.fault_count disk.new) }
+    ensures cause { HasReplyCause (D.fault_count disk.old) (D.fault_count disk.new) result }
     ensures marks { trace.new.marks ≡ trace.old.marks ++ (ran_of result store.new).mark ∷ [] }
     ensures spare { trace.new.spare + 1 ≡ trace.old.spare }
 {

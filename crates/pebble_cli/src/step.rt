@@ -5,7 +5,8 @@ ghost use Rattle.pebble_cli.specs.Lines.{store_a};
 ghost use Rattle.pebble_cli.specs.Steps.{IsStepOf};
 
 use crate::word::Word;
-use pb_script::{ByteString, Command, Line};
+use pb_keys::Bytes;
+use pb_script::{Command, Line};
 use std::alloc::{AllocError, Global};
 
 /// A line of a script that is built.
@@ -46,7 +47,7 @@ fn command_step(alloc: Global, command: &Command) -> Result<Option<Step>, AllocE
     }
 }
 
-fn set_step(alloc: Global, key: &ByteString, value: &ByteString) -> Result<Option<Step>, AllocError>
+fn set_step(alloc: Global, key: &Bytes, value: &Bytes) -> Result<Option<Step>, AllocError>
     ensures { IfOk result (IsStepOf (line.Whole store_a (command.Set key.now value.now))) }
 {
     let Some(key) = Word::new(alloc, key.as_slice())? else {
@@ -58,7 +59,7 @@ fn set_step(alloc: Global, key: &ByteString, value: &ByteString) -> Result<Optio
     Ok(Some(Step::Set(key, value)))
 }
 
-fn get_step(alloc: Global, key: &ByteString) -> Result<Option<Step>, AllocError>
+fn get_step(alloc: Global, key: &Bytes) -> Result<Option<Step>, AllocError>
     ensures { IfOk result (IsStepOf (line.Whole store_a (command.Get key.now))) }
 {
     let Some(key) = Word::new(alloc, key.as_slice())? else {

@@ -1,11 +1,10 @@
-ghost use Rattle.std.specs.Prelude.{◌≡◌, ℕ, ◌≤◌, ◌⊎◌, true, List, Option};
+ghost use Rattle.std.specs.Prelude.{◌≡◌, ℕ, ◌⊎◌, true, List, Option};
 ghost use Rattle.pb_devices.specs.Contents.{MayLeave};
-ghost use Rattle.pb_devices.specs.Counts.{Rose};
 ghost use Rattle.pb_machine.specs.States.{StoreState, is_open};
 ghost use Rattle.pb_gate_log.specs.Payloads.{payloads_in};
 ghost use Rattle.pebble_cli.specs.Folder.{log_name, HasFrom};
 ghost use Rattle.pebble_cli.specs.Steps.{step_after, step_reply};
-ghost use Rattle.pebble_cli.specs.StoreStates.{IsIn, Keeps, Finds, IsSetBy, TellsFault, has_fallen, map_in, ran_of};
+ghost use Rattle.pebble_cli.specs.StoreStates.{IsIn, Keeps, Finds, HasReplyCause, IsSetBy, TellsFault, has_fallen, map_in, ran_of};
 
 use crate::opened::Opened;
 use crate::step::Step;
@@ -34,8 +33,7 @@ impl Store {
         ensures found { D.told ≡ true → Finds (payloads_in ((D.contents disk.old).seen log_name)) step result (map_in self.new) }
         ensures crash { D.told ≡ true → (image : Option (List ℕ)) → MayLeave (D.contents disk.new) log_name image
             → HasFrom (D.contents disk.old) image ⊎ IsSetBy self.old step image }
-        ensures later { D.fault_count disk.old ≤ D.fault_count disk.new }
-        ensures fault { TellsFault result → Rose (D.fault_count disk.old) (D.fault_count disk.new) }
+        ensures cause { HasReplyCause (D.fault_count disk.old) (D.fault_count disk.new) result }
     {
         match step {
             Step::Open => self.open(alloc, disk),
@@ -52,8 +50,7 @@ impl Store {
         ensures found { D.told ≡ true → Finds (payloads_in ((D.contents disk.old).seen log_name)) Step.Open result (map_in self.new) }
         ensures crash { D.told ≡ true → (image : Option (List ℕ)) → MayLeave (D.contents disk.new) log_name image
             → HasFrom (D.contents disk.old) image }
-        ensures later { D.fault_count disk.old ≤ D.fault_count disk.new }
-        ensures fault { TellsFault result → Rose (D.fault_count disk.old) (D.fault_count disk.new) }
+        ensures cause { HasReplyCause (D.fault_count disk.old) (D.fault_count disk.new) result }
     {
         if self.is_open() {
             return Reply::Refused(Refusal::AlreadyOpen);
@@ -78,8 +75,7 @@ impl Store {
         ensures state { (state : StoreState) → IsIn self.old state → IsIn self.new (step_after state (Step.Set key value) (ran_of result self.new)) }
         ensures crash { D.told ≡ true → (image : Option (List ℕ)) → MayLeave (D.contents disk.new) log_name image
             → HasFrom (D.contents disk.old) image ⊎ IsSetBy self.old (Step.Set key value) image }
-        ensures later { D.fault_count disk.old ≤ D.fault_count disk.new }
-        ensures fault { TellsFault result → Rose (D.fault_count disk.old) (D.fault_count disk.new) }
+        ensures cause { HasReplyCause (D.fault_count disk.old) (D.fault_count disk.new) result }
     {
         let Store::Open(opened) = self else {
             return Reply::Refused(Refusal::NotOpen);

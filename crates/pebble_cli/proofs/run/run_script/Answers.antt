@@ -1,8 +1,8 @@
 use Rattle.std.proofs.Common.{◌≡◌, ◌∙◌, [], List, Err, true, sym, ap, subst}
 use Rattle.pebble_cli.specs.Headline.{Headline, IsGood}
-use Rattle.pebble_cli.specs.Lines.{first_fault}
+use Rattle.pebble_cli.specs.Lines.{fault_line}
 use Rattle.pb_machine.specs.Marks.{Ran}
-use Rattle.pebble_cli.specs.Runs.{Task, script, fault, task_of_script, lines_due, Prints, Comes}
+use Rattle.pebble_cli.specs.Runs.{Task, script, task_of_script, lines_due, Prints, Comes}
 use Rattle.pebble_cli.proofs.Crash.{nothing_ran}
 use Rattle.pebble_cli.proofs.Early.{memory_of_script, memory_prints}
 use Rattle.pebble_cli.proofs.run.run_script.Goals as goal
@@ -24,7 +24,7 @@ returns-in-Err-Fault-clause-comes g c =
     subst (λ (task : Task). Comes task c.say_fault.result c.args.trace.now.marks
     (λ (ran : List Ran). g.O.Sink.told ≡ true → Prints task c.say_fault.result ran (g.O.Sink.taken c.args.out.now) (g.O.Sink.taken c.say_fault.new.out) (g.O.Sink.fault_count c.args.out.now) (g.O.Sink.fault_count c.say_fault.new.out))
     (λ (ran : List Ran). g.D.Disk.told ≡ true → IsGood entry → Headline entry entry (lines_due task) ran))
-    (ap fault found.2 ∙ sym (ap (task_of_script bytes) found.1))
+    (sym (ap (task_of_script bytes) found))
     (record {
       ran = [];
       marked = c.requires;
@@ -40,7 +40,7 @@ returns-in-Err-NoMemory-clause-comes g c =
     record {
       ran = [];
       marked = c.requires;
-      ends = memory_of_script bytes (first_fault bytes);
-      printed = λ told. memory_prints (task_of_script bytes (first_fault bytes)) (g.O.Sink.taken c.args.out.now) (g.O.Sink.fault_count c.args.out.now);
-      left = λ told good. nothing_ran entry (lines_due (task_of_script bytes (first_fault bytes))) (λ name. g.met.D.Disk.seen_may_be_left c.args.disk.now name told) good;
+      ends = memory_of_script bytes (fault_line bytes);
+      printed = λ told. memory_prints (task_of_script bytes (fault_line bytes)) (g.O.Sink.taken c.args.out.now) (g.O.Sink.fault_count c.args.out.now);
+      left = λ told good. nothing_ran entry (lines_due (task_of_script bytes (fault_line bytes))) (λ name. g.met.D.Disk.seen_may_be_left c.args.disk.now name told) good;
     }

@@ -1,6 +1,6 @@
 use Rattle.std.proofs.Common.{◌≡◌, ◌≤◌, ◌∙◌, [], ℕ, List, true, nat_lt, length, inl, Err, refl, ap, subst}
 use Rattle.pebble_cli.specs.Headline.{Headline, IsGood}
-use Rattle.pebble_cli.specs.Lines.{first_fault}
+use Rattle.pebble_cli.specs.Lines.{fault_line}
 use Rattle.pb_machine.specs.Marks.{Ran}
 use Rattle.pebble_cli.specs.Runs.{Task, too_long, IsWhole, max_script, task_of_script, task_of_source, lines_due, Prints, Comes}
 use Rattle.pebble_cli.proofs.Crash.{nothing_ran}
@@ -14,9 +14,9 @@ returns-in-Ok-clause-comes g c = λ told.
     let bytes = c.in-Ok.script.items in
     let left = g.I.Source.left c.args.source.now in
     let comes =
-    subst (λ (all : List ℕ). Comes (task_of_script all (first_fault all)) c.run_script.result c.run_script.new.trace.marks
-    (λ (ran : List Ran). g.O.Sink.told ≡ true → Prints (task_of_script all (first_fault all)) c.run_script.result ran (g.O.Sink.taken c.args.out.now) (g.O.Sink.taken c.run_script.new.out) (g.O.Sink.fault_count c.args.out.now) (g.O.Sink.fault_count c.run_script.new.out))
-    (λ (ran : List Ran). g.D.Disk.told ≡ true → IsGood (g.D.Disk.contents c.args.disk.now) → Headline (g.D.Disk.contents c.args.disk.now) (g.D.Disk.contents c.run_script.new.disk) (lines_due (task_of_script all (first_fault all))) ran))
+    subst (λ (all : List ℕ). Comes (task_of_script all (fault_line all)) c.run_script.result c.run_script.new.trace.marks
+    (λ (ran : List Ran). g.O.Sink.told ≡ true → Prints (task_of_script all (fault_line all)) c.run_script.result ran (g.O.Sink.taken c.args.out.now) (g.O.Sink.taken c.run_script.new.out) (g.O.Sink.fault_count c.args.out.now) (g.O.Sink.fault_count c.run_script.new.out))
+    (λ (ran : List Ran). g.D.Disk.told ≡ true → IsGood (g.D.Disk.contents c.args.disk.now) → Headline (g.D.Disk.contents c.args.disk.now) (g.D.Disk.contents c.run_script.new.disk) (lines_due (task_of_script all (fault_line all))) ran))
     (c.deref.ensures.value ∙ (c.in-Ok.ensures.ok told).0) c.run_script.ensures.comes in
     subst (λ (task : Task). Comes task c.run_script.result c.run_script.new.trace.marks
     (λ (ran : List Ran). g.O.Sink.told ≡ true → Prints task c.run_script.result ran (g.O.Sink.taken c.args.out.now) (g.O.Sink.taken c.run_script.new.out) (g.O.Sink.fault_count c.args.out.now) (g.O.Sink.fault_count c.run_script.new.out))

@@ -88,10 +88,10 @@ loop-step-preserved g c =
               spoilt_step (g.D.Disk.contents c.args.disk.now) (g.D.Disk.contents c.loop-step.disk) going.state c.in-Some.step reply c.loop-step.trace.marks (ran_of reply after) (map_in after)
               (kept.from told) (g.met.D.Disk.seen_may_be_left c.loop-step.disk log_name told) (e.reply going.state going.is_in) refl (e.found told) (kept.spoilt told)
               (ap has_damage (sym e.marks) ∙ damage);
-          disk_later = omega (arith, kept.disk_later, e.later);
+          disk_later = omega (arith, kept.disk_later, e.cause.later);
           device = λ is. elim (c.status_with-status.ensures.device is) [
-            | inl was ↦ rose_later _ _ _ (kept.device was) e.later
-            | inr fault ↦ rose_from _ _ _ kept.disk_later (e.fault fault)
+            | inl was ↦ rose_later _ _ _ (kept.device was) e.cause.later
+            | inr fault ↦ rose_from _ _ _ kept.disk_later (e.cause.failed fault)
           ];
         },
       ),

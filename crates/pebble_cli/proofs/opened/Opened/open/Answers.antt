@@ -17,4 +17,4 @@ pub returns-clause-damaged : goal.returns-clause-damaged
 returns-clause-damaged g c = λ told is n m makes.
     c.in-Err.ensures.damaged (ap Err (refused_same c.in-Err.refusal Damaged is)) n m
     (subst (λ (l : List (List ℕ)). Make l n m)
-    (ap payloads_in (sym ((c.in_ok-barrier.ensures.ok told).seen log_name)) ∙ sym (c.in_ok-log.ensures.list told) ∙ sym c.deref.ensures.value) makes)
+    (ap payloads_in (sym ((c.in_ok-barrier.ensures.ok told).seen log_name)) ∙ sym (c.in_ok-log.ensures.ok told).had ∙ sym c.deref.ensures.value) makes)

@@ -18,7 +18,7 @@ returns-clause-crash g c = λ told image fault left.
     let is : IsSet (next_set held c.args.key c.args.value) =
     record { count = omega (arith, c.if-self-ge-COUNTS.false); key = subst IsWord c.key.view_is c.key.invariant; value = subst IsWord c.value.view_is c.value.invariant } in
     left_held held c.args.self.now c.deref.result.now c.args.key c.args.value old image c.self.view_is keeps spelled is
-    (c.in-Err.ensures.crash told keeps.list image keeps.log (subst (λ (name : List ℕ). MayLeave (g.D.Disk.contents c.set_logged.new.disk) name image) (sym keeps.file) left))
+    ((c.in-Err.ensures.appends told).crash keeps.list image keeps.log (subst (λ (name : List ℕ). MayLeave (g.D.Disk.contents c.set_logged.new.disk) name image) (sym keeps.file) left))
 
 pub returns-in-Ok-clause-kept : goal.returns-in-Ok-clause-kept
 returns-in-Ok-clause-kept g c = λ told.
@@ -31,5 +31,5 @@ returns-in-Ok-clause-kept g c = λ told.
     ∙ ap (λ v. payload_of (record { count = c.self.inside.count + 1; key = c.args.key; value = v })) (c.as_bytes-2.ensures.value ∙ c.as_str-2.ensures) in
     let is : IsSet (next_set held c.args.key c.args.value) =
     record { count = omega (arith, c.if-self-ge-COUNTS.false); key = subst IsWord c.key.view_is c.key.invariant; value = subst IsWord c.value.view_is c.value.invariant } in
-    logged held new c.deref.result.now c.args.key c.args.value old (g.D.Disk.contents c.set_logged.new.disk) keeps c.in-Ok.ensures.file refl c.in-Ok.ensures.map spelled is
-    (c.in-Ok.ensures.ok told keeps.list keeps.log)
+    logged held new c.deref.result.now c.args.key c.args.value old (g.D.Disk.contents c.set_logged.new.disk) keeps (c.in-Ok.ensures.appends told).file refl c.in-Ok.ensures.map spelled is
+    ((c.in-Ok.ensures.appends told).ok keeps.list keeps.log)

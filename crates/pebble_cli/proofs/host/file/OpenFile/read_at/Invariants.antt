@@ -1,9 +1,0 @@
--- Each turn but the last reads at least one byte more.
-use Rattle.std.proofs.Common.{length, ◌-◌, ◌≤◌}
-use Rattle.pebble_cli.proofs.host.file.OpenFile.read_at.Given as goal
-
-abbrev pub invariant-loop-done : goal.invariant-loop-done
-invariant-loop-done l = l.done ≤ length l.initial.into
-
-abbrev pub decreases-loop-done : goal.decreases-loop-done
-decreases-loop-done l = length l.initial.into - l.done

@@ -1,6 +1,7 @@
 #!/usr/bin/env python3
-"""Times the parse of a script of 16 MiB of `A set k v` lines beside a plain pass over its bytes, in one built program and in
-processor time. Prints nine rounds, the best parse over the best pass, and how many bytes a script byte the parse holds at its peak.
+"""Times `parse` and `parse_numbered` of a script of 16 MiB of `A set k v` lines, and of the same with a comment before every tenth
+line, beside a plain pass over the bytes, in one built program and in processor time. Prints for each the best of nine rounds, the best
+over the best pass, and how many bytes a script byte are held at the peak.
 
     python3 bench/parse_script.py [FOLDER]
 
@@ -14,22 +15,31 @@ import sys
 import tempfile
 
 TOP = os.path.dirname(os.path.dirname(os.path.abspath(__file__)))
-CRATES = ["pb_keys", "pb_names", "pb_reply", "pb_script"]
-LENGTH = 16_777_210
+CRATES = ["pb_keys", "pb_names", "pb_script"]
+LENGTHS = {"plain": 16_777_210, "commented": 16_777_215}
 PROGRAM = """//! Times the parse of a script beside a plain pass over its bytes.
 #![tactic(auto)]
 
-use pb_script::parse;
+use pb_script::{parse, parse_numbered};
 use std::env;
 use std::io;
 use std::time::CpuClock;
 
-const LINES: usize = 1_677_721;
-
-fn script(rt: &HostRuntime) -> io::Result<Vec<u8>> {
+fn plain(rt: &HostRuntime) -> io::Result<Vec<u8>> {
     let mut script = Vec::new(rt.alloc());
-    for _ in 0..LINES {
+    for _ in 0..1_677_721 {
         script.extend_from_slice(b"A set k v\\n")?;
+    }
+    Ok(script)
+}
+
+fn commented(rt: &HostRuntime) -> io::Result<Vec<u8>> {
+    let mut script = Vec::new(rt.alloc());
+    for _ in 0..159_783 {
+        script.extend_from_slice(b"# ten\\nA set k v\\nA set k v\\nA set k v\\nA set k v\\nA set k v\\n")?;
+        script.extend_from_slice(b"A set k v\\nA set k v\\nA set k v\\nA set k v\\n")?;
+        script.extend_from_slice(b"A set k v")?;
+        script.extend_from_slice(b"\\n")?;
     }
     Ok(script)
 }
@@ -60,15 +70,40 @@ fn round(rt: &HostRuntime, script: &[u8]) -> io::Result<()> {
     println!(rt; "{pass} {parse} {number} {sum}")
 }
 
-/// Nine rounds, or with any word a pass alone, which shows the memory that the script takes.
+/// The same of a parse with numbers.
+fn numbered_round(rt: &HostRuntime, script: &[u8]) -> io::Result<()> {
+    let start = rt.thread_cpu_time()?;
+    let sum = pass(script);
+    let passed = rt.thread_cpu_time()?;
+    let read = parse_numbered(rt.alloc(), script);
+    let parsed = rt.thread_cpu_time()?;
+    let number = match &read {
+        Ok(read) => read.lines().len(),
+        Err(_) => 0,
+    };
+    drop(read);
+    let pass = passed.saturating_sub(start).as_micros();
+    let parse = parsed.saturating_sub(passed).as_micros();
+    println!(rt; "{pass} {parse} {number} {sum}")
+}
+
+/// The words: which script, and which call. A pass alone shows the memory that the script takes.
 fn main(rt: HostRuntime) -> io::Result<()> {
-    let script = script(&rt)?;
-    if env::args(&rt)?.count() > 1 {
+    let words: Vec<String> = env::args(&rt)?.skip(1).collect(rt.alloc())?;
+    let is_plain = words.len() < 2 || words[0].as_str() == "plain";
+    let script = if is_plain { plain(&rt)? } else { commented(&rt)? };
+    if words.len() < 2 || words[1].as_str() == "pass" {
         let sum = pass(script.as_slice());
         return println!(rt; "{sum}");
     }
+    if words[1].as_str() == "parse" {
+        for _ in 0..9 {
+            round(&rt, script.as_slice())?;
+        }
+        return Ok(());
+    }
     for _ in 0..9 {
-        round(&rt, script.as_slice())?;
+        numbered_round(&rt, script.as_slice())?;
     }
     Ok(())
 }
@@ -111,14 +146,14 @@ def run(program, *words):
 def main():
     folder = sys.argv[1] if len(sys.argv) > 1 else tempfile.mkdtemp()
     program = build(folder)
-    _, without = run(program, "pass")
-    lines, peak = run(program)
-    rounds = [[int(word) for word in re.findall(r"\d+", line)] for line in lines]
-    for passed, parsed, number, _ in rounds:
-        print(f"pass {passed / 1000:.1f} ms, parse {parsed / 1000:.1f} ms, {number} lines")
-    passed, parsed = (min(round[at] for round in rounds) for at in (0, 1))
-    print(f"best: parse {parsed / 1000:.1f} ms, {parsed / passed:.1f} passes; first parse {rounds[0][1] / passed:.1f} passes")
-    print(f"peak: {(peak - without) / LENGTH:.1f} bytes a script byte")
+    for script, length in LENGTHS.items():
+        _, without = run(program, script, "pass")
+        for call in ("parse", "parse_numbered"):
+            lines, peak = run(program, script, call)
+            rounds = [[int(word) for word in re.findall(r"\d+", line)] for line in lines]
+            passed, parsed = (min(round[at] for round in rounds) for at in (0, 1))
+            print(f"{script}, {call}: {rounds[0][2]} lines, best pass {passed / 1000:.1f} ms, best {parsed / 1000:.1f} ms, {parsed / passed:.1f} passes")
+            print(f"    the first {rounds[0][1] / passed:.1f} passes; at the peak {(peak - without) / length:.1f} bytes a script byte")
 
 
 if __name__ == "__main__":

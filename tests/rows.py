@@ -42,7 +42,7 @@ class Case:
         self.words = list(words)
 
     def do_repeat(self, name, count, text):
-        self.made[name] = text.encode().decode("unicode_escape").encode("latin-1") * int(count)
+        self.made[name] = text.encode().decode("unicode_escape").encode("latin-1") * int(count) + self.text(name + ".script")
 
     def do_run(self, name):
         script = self.made.get(name, self.text(name + ".script"))

@@ -1,20 +1,10 @@
 #!/usr/bin/env bash
-# Counts the syncs of two sets on real folders, and fails some of them. Skipped where strace isn't installed or may not trace.
+# Counts the syncs of two sets on real folders, and fails some of them, and the opens of folders. Skipped where strace isn't installed
+# or may not trace.
 set -u
 top=$(cd "$(dirname "$0")/.." && pwd)
 program=$top/pebble_cli
-passed=0
-failed=0
-
-# check NAME WANTED GOT
-check() {
-  if [ "$2" = "$3" ]; then
-    passed=$((passed + 1))
-  else
-    failed=$((failed + 1))
-    printf '%s: wanted\n%s\ngot\n%s\n' "$1" "$2" "$3"
-  fi
-}
+. "$top/tests/strace_checks.sh"
 
 # run LINE..: runs the lines as a script on the folder's stores, and keeps its output and status in `out`.
 run() {
@@ -22,9 +12,9 @@ run() {
   echo "status $?" >>out
 }
 
-# trace STRACE_OPTION LINE..: the same under strace. Its calls come into `calls`, in order.
+# trace "STRACE_OPTION.." LINE..: the same under strace. Its calls come into `calls`, in order.
 trace() {
-  printf '%s\n' "${@:2}" | strace -o calls -e trace=fsync,fdatasync,rename,write $1 "$program" run >out
+  printf '%s\n' "${@:2}" | strace --quiet=path-resolution -o calls -e trace=fsync,fdatasync,rename,openat,write $1 "$program" run >out
   echo "status $?" >>out
 }
 
@@ -33,33 +23,12 @@ trace_failing() {
   trace "-e inject=fsync,fdatasync:error=EIO:when=$1" "${@:2}"
 }
 
-# The number of syncs before each reply of the last run, a line each.
-syncs_by_reply() {
-  awk '/^f(data)?sync\(/ { syncs++ } /^write\(1,/ { print syncs + 0; syncs = 0 }' calls
-}
-
 # Begins with no stores.
 fresh() {
   rm -rf stores
 }
 
-lines() {
-  printf '%s\n' "$@"
-}
-
-if ! command -v strace >/dev/null; then
-  echo "strace is not installed: skipped"
-  echo "0 passed, 0 failed"
-  exit 0
-fi
-folder=$(mktemp -d)
-trap 'rm -rf "$folder"' EXIT
-cd "$folder" || exit 1
-if ! strace -o calls true 2>/dev/null; then
-  echo "strace may not trace here: skipped"
-  echo "0 passed, 0 failed"
-  exit 0
-fi
+need_strace
 # The launcher builds the program where it has to.
 "$program" run </dev/null || exit 1
 
@@ -87,5 +56,25 @@ check "the same process goes on" "$(lines 'opened 0' 'refused 22 DiskFault' 'ope
 check "a new file stands in place of the one whose sync failed" 1 "$(grep -c '^rename(.*, "stores/A/3.log") *= 0' calls)"
 check "nothing else is left in the folder" 3.log "$(ls -A stores/A)"
 
-echo "$passed passed, $failed failed"
-[ "$failed" = 0 ]
+# A folder that can't be opened has lost nothing.
+for path in stores/A stores; do
+  fresh
+  trace "" "open A"
+  opens=$(opens_before_reply $path)
+  check "$path is opened" 1 "$((opens > 0))"
+  for open in $(seq "$opens"); do
+    fresh
+    trace "-P $path -e inject=openat:error=EMFILE:when=$open" "open A" "open A" "A set a 1"
+    check "open $open of $path fails" "$(lines 'refused 22 DiskFault' 'opened 0' 'ok 1' 'status 6')" "$(cat out)"
+    run "open A" "A get a"
+    check "a new process after it" "$(lines 'opened 1' 'value 1' 'status 0')" "$(cat out)"
+  done
+done
+
+fresh
+trace "-P $folder/stores/A -e inject=fsync:error=EIO:when=1" "open A" "open A" "A set a 1"
+check "the sync of the folder fails" "$(lines 'refused 22 DiskFault' 'refused 22 DiskFault' 'refused 2 NotOpen' 'status 6')" "$(cat out)"
+run "open A"
+check "a new process after it" "$(lines 'opened 0' 'status 0')" "$(cat out)"
+
+finish

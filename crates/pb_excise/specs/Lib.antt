@@ -1,2 +1,3 @@
 pub mod Excised
+pub mod Above
 pub mod Examples

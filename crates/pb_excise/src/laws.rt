@@ -7,6 +7,7 @@ ghost use Rattle.pb_version.specs.Version.{VersionView, all_tables};
 ghost use Rattle.pb_version.specs.Meaning.{map_of};
 ghost use Rattle.pb_version.specs.Stored.{stored_in};
 ghost use Rattle.pb_excise.specs.Excised.{excised, ShowsWhatStood};
+ghost use Rattle.pb_excise.specs.Above.{AddsAbove, AreUnusedFrom};
 ghost use Rattle.pb_excise.specs.Examples.{a, b, c, d, e, z, above, aa, bb, cc, dz, whole, part, backing, store, flushed};
 
 /// The map of what is left is the map without the span, whatever the backings stand for.
@@ -19,6 +20,12 @@ pub fn excised_map()
 pub fn nothing_new_is_stored()
     ensures stored { (v : VersionView) (cut : KeySpan) (first : ℕ) → All (Contains (stored_in v)) (stored_in (excised v cut first)) }
     ensures tables { (v : VersionView) (cut : KeySpan) (first : ℕ) → All (ShowsWhatStood (all_tables v)) (all_tables (excised v cut first)) }
+{}
+
+/// What is left adds nothing above a running compaction's inputs: each table stood on its level, or is a part of one that went
+/// from there, with its rank and within its bounds.
+pub fn an_excise_adds_above()
+    ensures { (v : VersionView) (cut : KeySpan) (first : ℕ) → AreUnusedFrom v first → AddsAbove v (excised v cut first) }
 {}
 
 /// Excises computed: of a span inside a table, of all of it, beside it, and of its front; one after another; and of several

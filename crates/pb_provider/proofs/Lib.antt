@@ -1,2 +1,3 @@
 pub mod StageLemmas
 pub mod Files
+pub mod WholeLemmas

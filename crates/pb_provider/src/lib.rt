@@ -4,8 +4,11 @@
 mod error;
 mod local;
 mod provider;
+mod read_whole_error;
 mod reads;
 mod stages;
+mod whole;
 
 pub use error::ReadError;
 pub use provider::Provider;
+pub use read_whole_error::ReadWholeError;

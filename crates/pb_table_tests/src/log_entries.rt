@@ -86,40 +86,103 @@ fn a_deleted_span_has_its_two_ends(rt: HostRuntime) -> Result<(), Fail> {
     Ok(())
 }
 
+// Bytes that are no entry, each beside one that is: of the same kind, where the kind is one.
+const OFF: [(&[u8], &[u8], &str); 20] = [
+    (b"", b"\x01\x02\x01a", "nothing"),
+    (
+        b"\x80\x00\x02\x01a",
+        b"\x00\x02\x01a",
+        "a longer spelling of the count",
+    ),
+    (
+        b"\x80\x80\x80\x80\x80\x80\x80\x80\x40\x02\x01a",
+        b"\xff\xff\xff\xff\xff\xff\xff\xff\x3f\x02\x01a",
+        "the count 2^62",
+    ),
+    (b"\x01\x00\x01a\x011", b"\x01\x01\x01a\x011", "kind 0"),
+    (
+        b"\x01\x04\x00\x01\x04\x08",
+        b"\x01\x01\x01\x04\x01\x08",
+        "an ingest",
+    ),
+    (
+        b"\x01\x01\x00\x011",
+        b"\x01\x01\x01a\x011",
+        "an empty key of a set",
+    ),
+    (
+        b"\x01\x01\x01@\x011",
+        b"\x01\x01\x02a@\x011",
+        "a set's key that is an at sign",
+    ),
+    (b"\x01\x02\x00", b"\x01\x02\x01a", "an empty key"),
+    (
+        b"\x01\x02\x02@a",
+        b"\x01\x02\x02a@",
+        "a key that begins with an at sign",
+    ),
+    (
+        b"\x01\x02\x01@",
+        b"\x01\x02\x01a",
+        "a key that is an at sign",
+    ),
+    (
+        b"\x01\x03\x01b\x01a",
+        b"\x01\x03\x01a\x01b",
+        "a span that falls",
+    ),
+    (
+        b"\x01\x03\x01a\x01a",
+        b"\x01\x03\x01a\x02aa",
+        "an empty span",
+    ),
+    (
+        b"\x01\x03\x03a@1\x01c",
+        b"\x01\x03\x02a1\x01c",
+        "an end with an at sign",
+    ),
+    (
+        b"\x01\x03\x01a\x02b@",
+        b"\x01\x03\x01a\x02bA",
+        "the other end with one",
+    ),
+    (
+        b"\x01\x03\x00\x01c",
+        b"\x01\x03\x01a\x01c",
+        "an end without bytes",
+    ),
+    (
+        b"\x01\x02\x01a\x00",
+        b"\x01\x02\x01a",
+        "a byte behind a deletion",
+    ),
+    (
+        b"\x01\x01\x01a\x011\x00",
+        b"\x01\x01\x01a\x021\x00",
+        "a byte behind a set",
+    ),
+    (
+        b"\x01\x03\x01a\x01c\x00",
+        b"\x01\x03\x01a\x02c\x00",
+        "a byte behind a span",
+    ),
+    (
+        b"\x01\x02\x81\x00a",
+        b"\x01\x02\x01a",
+        "a longer spelling of a length",
+    ),
+    (
+        b"\x01\x02\xff\xff\xff\xff\xff\xff\xff\xff\xff\x01a",
+        b"\x01\x02\x01a",
+        "a length of 2^64 - 1",
+    ),
+];
+
 #[test]
 fn what_is_off_the_grammar_is_no_entry(rt: HostRuntime) -> Result<(), Fail> {
-    for (bytes, why) in [
-        (b"".as_slice(), "nothing"),
-        (
-            b"\x80\x00\x02\x01a".as_slice(),
-            "a longer spelling of the count",
-        ),
-        (
-            b"\x80\x80\x80\x80\x80\x80\x80\x80\x40\x02\x01a".as_slice(),
-            "the count 2^62",
-        ),
-        (b"\x01\x00\x01a\x011".as_slice(), "kind 0"),
-        (b"\x03\x04\x00\x01\x04\x08".as_slice(), "an ingest"),
-        (b"\x01\x01\x00\x011".as_slice(), "an empty key of a set"),
-        (b"\x01\x02\x00".as_slice(), "an empty key"),
-        (
-            b"\x01\x02\x02@a".as_slice(),
-            "a key that begins with an at sign",
-        ),
-        (b"\x01\x02\x01@".as_slice(), "a key that is an at sign"),
-        (b"\x01\x03\x01c\x01a".as_slice(), "a span that falls"),
-        (b"\x01\x03\x01a\x01a".as_slice(), "an empty span"),
-        (b"\x01\x03\x03a@1\x01c".as_slice(), "an end with an at sign"),
-        (b"\x01\x03\x01a\x02b@".as_slice(), "the other end with one"),
-        (b"\x01\x02\x01a\x00".as_slice(), "a byte behind a deletion"),
-        (b"\x01\x01\x01a\x011\x00".as_slice(), "a byte behind a set"),
-        (b"\x01\x03\x01a\x01c\x00".as_slice(), "a byte behind a span"),
-        (
-            b"\x01\x02\xff\xff\xff\xff\xff\xff\xff\xff\xff\x01a".as_slice(),
-            "a length of 2^64 - 1",
-        ),
-    ] {
+    for (bytes, near, why) in OFF {
         assert!(rt; !is_decoded(rt.alloc(), bytes)?, "{why}");
+        assert!(rt; is_decoded(rt.alloc(), near)?, "beside {why}");
     }
     Ok(())
 }

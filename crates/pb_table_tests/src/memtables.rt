@@ -2,7 +2,7 @@ ghost use Rattle.std.specs.Prelude.{◌≤◌, length};
 ghost use Rattle.pb_wal.specs.Changes.{HasShortValue};
 
 use pb_keys::{Bytes, Key, Span};
-use pb_memtable::Memtable;
+use pb_memtable::{Memtable, laws};
 use pb_rows::Found;
 use pb_wal::{Change, Entry};
 use std::alloc::Global;
@@ -127,12 +127,40 @@ fn compare(rt: &impl Abort, alloc: Global, memtable: &Memtable, plain: &Plain) -
     assert_eq!(rt; memtable.size(), plain.size);
     assert_eq!(rt; copy.size(), plain.size);
     for part in 0..4 {
-        let span = Span::new(alloc, ENDS[part], ENDS[part + 1])?;
-        let has_key = (0..5).any(|at| PARTS[at % 5] == part && plain.keys[at % 5] != 0);
-        let wanted = has_key || plain.parts[part];
-        assert_eq!(rt; memtable.overlaps(&span), wanted, "part {part}");
-        assert_eq!(rt; copy.overlaps(&span), wanted, "part {part} of the copy");
         compare_within(rt, alloc, memtable, plain, part)?;
+    }
+    compare_overlaps(rt, alloc, memtable, &copy, plain)
+}
+
+// Whether a part of those from one to before another is deleted or has a key.
+fn has_between(plain: &Plain, lo: usize, hi: usize) -> bool {
+    let is_deleted = (0..4).any(|part| lo <= part && part < hi && plain.parts[part % 4]);
+    is_deleted || has_key_between(plain, lo, hi)
+}
+
+fn has_key_between(plain: &Plain, lo: usize, hi: usize) -> bool {
+    (0..5).any(|at| lo <= PARTS[at % 5] && PARTS[at % 5] < hi && plain.keys[at % 5] != 0)
+}
+
+// Over each span between two of the five ends.
+fn compare_overlaps(
+    rt: &impl Abort,
+    alloc: Global,
+    memtable: &Memtable,
+    copy: &Memtable,
+    plain: &Plain,
+) -> Result<(), Fail> {
+    for lo in 0..4 {
+        for hi in lo + 1..5 {
+            let span = Span::new(alloc, ENDS[lo % 5], ENDS[hi % 5])?;
+            let wanted = has_between(plain, lo, hi);
+            assert_eq!(rt; memtable.overlaps(&span), wanted, "parts {lo} to {hi}");
+            assert_eq!(rt;
+                copy.overlaps(&span),
+                wanted,
+                "parts {lo} to {hi} of the copy"
+            );
+        }
     }
     Ok(())
 }
@@ -232,4 +260,9 @@ fn a_span_between_two_rows_overlaps_nothing(rt: HostRuntime) -> Result<(), Fail>
     let around = Span::new(alloc, b"b", b"d\0")?;
     assert!(rt; memtable.overlaps(&around));
     Ok(())
+}
+
+#[test]
+fn the_laws_of_memtables_hold() {
+    laws::untouched_commands_commute();
 }

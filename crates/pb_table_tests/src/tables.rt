@@ -2,7 +2,7 @@ ghost use Rattle.std.specs.Prelude.{◌<◌};
 
 use pb_keys::{Bytes, MAX_VALUE, Span};
 use pb_rows::{Layer, Row};
-use pb_table::{NEW_TABLE_FORMAT, read_table, write_table};
+use pb_table::{NEW_TABLE_FORMAT, laws, read_table, write_table};
 use std::alloc::Global;
 use std::test::Fail;
 
@@ -242,4 +242,11 @@ fn small_layers_are_written_as_a_plain_loop_does(rt: HostRuntime) -> Result<(), 
         }
     }
     Ok(())
+}
+
+#[test]
+fn the_laws_of_tables_hold() {
+    laws::one_layer();
+    laws::formats_are_numbered();
+    laws::size_is_bounded();
 }

@@ -109,16 +109,16 @@ fn is_spellable(edit: &Edit) -> bool
 
 /// What an edit of a test has, in the order of the fields of `Edit`.
 #[derive(Drop)]
-struct Draft {
+pub(crate) struct Draft {
     five: [Option<u64>; 5],
-    deleted: Vec<Deleted>,
-    physical: Vec<Physical>,
-    virtuals: Vec<Virtual>,
-    created: Vec<Created>,
-    removed: Vec<u64>,
+    pub(crate) deleted: Vec<Deleted>,
+    pub(crate) physical: Vec<Physical>,
+    pub(crate) virtuals: Vec<Virtual>,
+    pub(crate) created: Vec<Created>,
+    pub(crate) removed: Vec<u64>,
 }
 
-fn draft_of(alloc: Global, five: [Option<u64>; 5]) -> Draft {
+pub(crate) fn draft_of(alloc: Global, five: [Option<u64>; 5]) -> Draft {
     Draft {
         five,
         deleted: Vec::new(alloc),
@@ -129,10 +129,10 @@ fn draft_of(alloc: Global, five: [Option<u64>; 5]) -> Draft {
     }
 }
 
-const NOTHING: [Option<u64>; 5] = [None; 5];
+pub(crate) const NOTHING: [Option<u64>; 5] = [None; 5];
 
 /// Of a new store.
-const FIRST: [Option<u64>; 5] = [Some(0), Some(64), Some(3), Some(0), Some(1)];
+pub(crate) const FIRST: [Option<u64>; 5] = [Some(0), Some(64), Some(3), Some(0), Some(1)];
 
 fn physical(
     alloc: Global,
@@ -194,7 +194,7 @@ fn edit_of(draft: Draft) -> Edit {
 }
 
 /// The rule that the edit breaks; 0 for none, 10 for want of memory, 11 for an edit that can't be spelled.
-fn broken(alloc: Global, version: &mut Version, draft: Draft) -> u8 {
+pub(crate) fn broken(alloc: Global, version: &mut Version, draft: Draft) -> u8 {
     let edit = edit_of(draft);
     if !is_spellable(&edit) {
         return 11;
@@ -212,26 +212,6 @@ fn broken(alloc: Global, version: &mut Version, draft: Draft) -> u8 {
         Err(Broken::V9) => 9,
         Err(Broken::NoMemory) => 10,
     }
-}
-
-/// An edit with a table on a level.
-fn with_table_on(alloc: Global, level: u8, number: u64, lo: &str, hi: &str) -> Result<Draft, Fail> {
-    let mut edit = draft_of(alloc, NOTHING);
-    let mut table = physical(alloc, number, number, lo, hi)?;
-    table.level = level;
-    edit.physical.push(table)?;
-    Ok(edit)
-}
-
-/// A table of the span from a to c on each level, by the numbers from 10 on.
-fn seven_tables(alloc: Global) -> Result<Version, Fail> {
-    let mut version = Version::empty(alloc);
-    let _first = broken(alloc, &mut version, draft_of(alloc, FIRST));
-    for level in 0..7u8 {
-        let edit = with_table_on(alloc, level, 10 + u64::from(level), "a", "c")?;
-        let _more = broken(alloc, &mut version, edit);
-    }
-    Ok(version)
 }
 
 fn with_table(alloc: Global, number: u64, rank: u64, lo: &str, hi: &str) -> Result<Draft, Fail> {
@@ -459,157 +439,6 @@ fn the_first_rule_is_told(rt: HostRuntime) -> Result<(), Fail> {
     assert_eq!(rt; version.tables(0).len(), 2);
     let five = version.five();
     assert_eq!(rt; five.log, 3);
-    Ok(())
-}
-
-#[test]
-fn tables_of_one_level_do_not_overlap(rt: HostRuntime) -> Result<(), Fail> {
-    let alloc = rt.alloc();
-    let mut version = seven_tables(alloc)?;
-    for (level, lo, hi, want) in [
-        (1, "b", "d", 4),
-        (1, "c", "e", 0),
-        (6, "c", "d", 0),
-        (6, "c", "e", 4),
-    ] {
-        let number = 20 + version.len() as u64;
-        let edit = with_table_on(alloc, level, number, lo, hi)?;
-        assert_eq!(rt;
-            broken(alloc, &mut version, edit),
-            want,
-            "{level} {lo} to {hi}"
-        );
-    }
-    // The same on level 0, of another rank.
-    let edit = with_table(alloc, 40, 40, "b", "d")?;
-    assert_eq!(rt; broken(alloc, &mut version, edit), 0);
-    assert_eq!(rt; version.len(), 10);
-    Ok(())
-}
-
-#[test]
-fn tables_go_from_their_own_level(rt: HostRuntime) -> Result<(), Fail> {
-    let alloc = rt.alloc();
-    let mut version = seven_tables(alloc)?;
-    // The table 10 stands on level 0 alone, and its number is in use for each level.
-    let mut edit = draft_of(alloc, NOTHING);
-    edit.deleted.push(Deleted {
-        level: 1,
-        number: 10,
-    })?;
-    assert_eq!(rt; broken(alloc, &mut version, edit), 1);
-    let edit = with_table_on(alloc, 2, 15, "c", "d")?;
-    assert_eq!(rt; broken(alloc, &mut version, edit), 2);
-    // It goes, and the table of level 1 over the same span is exchanged, in one edit.
-    let mut edit = with_table_on(alloc, 1, 20, "a", "c")?;
-    edit.deleted.push(Deleted {
-        level: 0,
-        number: 10,
-    })?;
-    edit.deleted.push(Deleted {
-        level: 1,
-        number: 11,
-    })?;
-    assert_eq!(rt; broken(alloc, &mut version, edit), 0);
-    assert_eq!(rt; version.tables(0).len(), 0);
-    assert_eq!(rt; version.tables(1).len(), 1);
-    assert_eq!(rt; version.tables(7).len(), 0);
-    assert_eq!(rt; version.len(), 6);
-    Ok(())
-}
-
-/// The table of a level of `seven_tables` becomes a backing, of which two tables of the level show parts.
-fn carve_level(alloc: Global, level: u8, first: u64, second: u64) -> Result<Draft, Fail> {
-    let number = 10 + u64::from(level);
-    let mut edit = draft_of(alloc, NOTHING);
-    edit.deleted.push(Deleted { level, number })?;
-    edit.created.push(Created { number, size: 8 })?;
-    let mut left = virtual_of(alloc, first, number, number, ("a", "b"), "")?;
-    left.level = level;
-    edit.virtuals.push(left)?;
-    let mut right = virtual_of(alloc, second, number, number, ("b", "c"), "")?;
-    right.level = level;
-    edit.virtuals.push(right)?;
-    Ok(edit)
-}
-
-#[test]
-fn seven_levels_fold_back(rt: HostRuntime) -> Result<(), Fail> {
-    let alloc = rt.alloc();
-    let mut version = seven_tables(alloc)?;
-    let edit = carve_level(alloc, 3, 20, 21)?;
-    assert_eq!(rt; broken(alloc, &mut version, edit), 0);
-    let edit = carve_level(alloc, 0, 22, 23)?;
-    assert_eq!(rt; broken(alloc, &mut version, edit), 0);
-    assert_eq!(rt; version.backing(13), Some(8));
-    assert_eq!(rt; version.tables(3).len(), 2);
-    let snapshot = version.snapshot(alloc)?;
-    let mut again = Version::empty(alloc);
-    assert!(rt; again.apply(alloc, &snapshot).is_ok());
-    for level in 0..7u8 {
-        assert_eq!(rt;
-            again.tables(level).len(),
-            version.tables(level).len(),
-            "{level}"
-        );
-    }
-    assert_eq!(rt; again.backing(10), Some(8));
-    assert_eq!(rt; again.backing(13), Some(8));
-    assert_eq!(rt; again.len(), 9);
-    Ok(())
-}
-
-/// The edit of a flush at count 2.
-fn flush(alloc: Global, number: u64) -> Result<Draft, Fail> {
-    let mut edit = draft_of(alloc, [Some(2), None, Some(4101), Some(2), None]);
-    let table = physical(alloc, number, number, "a", "b")?;
-    edit.physical.push(table)?;
-    Ok(edit)
-}
-
-#[test]
-fn a_flush_needs_a_place(rt: HostRuntime) -> Result<(), Fail> {
-    let alloc = rt.alloc();
-    let mut version = Version::empty(alloc);
-    let mut edit = draft_of(alloc, [Some(0), Some(5000), Some(3), Some(0), Some(1)]);
-    for number in 4..4099 {
-        let table = physical(alloc, number, number, "a", "b")?;
-        edit.physical.push(table)?;
-    }
-    assert_eq!(rt; broken(alloc, &mut version, edit), 0);
-    assert_eq!(rt; version.len(), 4095);
-    let edit = flush(alloc, 4099)?;
-    assert_eq!(rt; broken(alloc, &mut version, edit), 0);
-    assert_eq!(rt; number_at(&version, 0), Some(4099));
-    let edit = flush(alloc, 4100)?;
-    assert_eq!(rt; broken(alloc, &mut version, edit), 9);
-    Ok(())
-}
-
-#[test]
-fn at_most_4096_tables(rt: HostRuntime) -> Result<(), Fail> {
-    let alloc = rt.alloc();
-    let mut version = Version::empty(alloc);
-    let mut edit = draft_of(alloc, [Some(0), Some(5000), Some(3), Some(0), Some(1)]);
-    for number in 4..4099 {
-        let table = physical(alloc, number, number, "a", "b")?;
-        edit.physical.push(table)?;
-    }
-    let mut deeper = physical(alloc, 4099, 4099, "a", "b")?;
-    deeper.level = 6;
-    edit.physical.push(deeper)?;
-    assert_eq!(rt; broken(alloc, &mut version, edit), 0);
-    let edit = with_table_on(alloc, 3, 4100, "a", "b")?;
-    assert_eq!(rt; broken(alloc, &mut version, edit), 9);
-    assert_eq!(rt; version.len(), 4096);
-    // One more and one less.
-    let mut edit = with_table_on(alloc, 3, 4100, "a", "b")?;
-    edit.deleted.push(Deleted {
-        level: 6,
-        number: 4099,
-    })?;
-    assert_eq!(rt; broken(alloc, &mut version, edit), 0);
-    assert_eq!(rt; version.len(), 4096);
     Ok(())
 }
 

@@ -1,12 +1,13 @@
 #!/usr/bin/env python3
-"""Times `parse` and `parse_numbered` of a script of 16 MiB of `A set k v` lines, and of the same with a comment before every tenth
-line, beside a plain pass over the bytes, in one built program and in processor time. Prints for each the best of nine rounds, the best
-over the best pass, and how many bytes a script byte are held at the peak.
+"""Times `parse`, `parse_numbered` and the program's own `read_lines` of a script of 16 MiB of `A set k v` lines, and of the same with a
+comment before every tenth line, in one built program and in processor time: the first two beside a plain pass over the bytes, the third
+beside `parse_numbered`. Prints for each the best of nine rounds, over the best of what it stands beside, and how many bytes a script byte
+are held at the peak.
 
     python3 bench/parse_script.py [FOLDER]
 
-The program stands over a copy of the crates in a folder of its own, since it belongs to nothing that is released. Its first build
-proves these crates, so a FOLDER that is kept saves minutes."""
+The program stands over a copy of the crates in a folder of its own, since it belongs to nothing that is released. Of pebble_cli it has
+the reading alone. Its first build proves these crates, so a FOLDER that is kept saves minutes."""
 import os
 import re
 import shutil
@@ -16,10 +17,14 @@ import tempfile
 
 TOP = os.path.dirname(os.path.dirname(os.path.abspath(__file__)))
 CRATES = ["pb_keys", "pb_names", "pb_script"]
+READING = ["src/lines.rt", "specs/Lines.antt", "proofs/FaultLines.antt", "proofs/lines"]
 LENGTHS = {"plain": 16_777_210, "commented": 16_777_215}
-PROGRAM = """//! Times the parse of a script beside a plain pass over its bytes.
+PROGRAM = """//! Times the parse of a script beside a plain pass over its bytes, and the program's reading beside the parse.
 #![tactic(auto)]
 
+mod lines;
+
+use lines::read_lines;
 use pb_script::{parse, parse_numbered};
 use std::env;
 use std::io;
@@ -87,6 +92,25 @@ fn numbered_round(rt: &HostRuntime, script: &[u8]) -> io::Result<()> {
     println!(rt; "{pass} {parse} {number} {sum}")
 }
 
+/// Prints the microseconds of a parse with numbers and of the program's reading, and the number of lines.
+fn reading_round(rt: &HostRuntime, script: &[u8]) -> io::Result<()> {
+    let start = rt.thread_cpu_time()?;
+    let read = parse_numbered(rt.alloc(), script);
+    let parsed = rt.thread_cpu_time()?;
+    drop(read);
+    let again = rt.thread_cpu_time()?;
+    let lines = read_lines(rt.alloc(), script);
+    let end = rt.thread_cpu_time()?;
+    let number = match &lines {
+        Ok(lines) => lines.len(),
+        Err(_) => 0,
+    };
+    drop(lines);
+    let parse = parsed.saturating_sub(start).as_micros();
+    let reading = end.saturating_sub(again).as_micros();
+    println!(rt; "{parse} {reading} {number} 0")
+}
+
 /// The words: which script, and which call. A pass alone shows the memory that the script takes.
 fn main(rt: HostRuntime) -> io::Result<()> {
     let words: Vec<String> = env::args(&rt)?.skip(1).collect(rt.alloc())?;
@@ -102,8 +126,14 @@ fn main(rt: HostRuntime) -> io::Result<()> {
         }
         return Ok(());
     }
+    if words[1].as_str() == "parse_numbered" {
+        for _ in 0..9 {
+            numbered_round(&rt, script.as_slice())?;
+        }
+        return Ok(());
+    }
     for _ in 0..9 {
-        numbered_round(&rt, script.as_slice())?;
+        reading_round(&rt, script.as_slice())?;
     }
     Ok(())
 }
@@ -124,13 +154,20 @@ def build(folder):
             shutil.copytree(os.path.join(TOP, "crates", crate, part), there)
     with open(os.path.join(TOP, "crates.txt")) as file:
         kept = [line for line in file if line.split(":")[0] in CRATES]
-    write(os.path.join(folder, "crates.txt"), "".join(kept) + "parse_bench: pb_script\n")
+    write(os.path.join(folder, "crates.txt"), "".join(kept) + "pebble_cli: pb_keys pb_names pb_script\n")
     shutil.copy(os.path.join(TOP, "HANDLES"), folder)
-    home = os.path.join(folder, "crates", "parse_bench")
+    home = os.path.join(folder, "crates", "pebble_cli")
+    shutil.rmtree(os.path.join(home, "proofs"), ignore_errors=True)
+    for part in READING:
+        here, there = os.path.join(TOP, "crates", "pebble_cli", part), os.path.join(home, part)
+        os.makedirs(os.path.dirname(there), exist_ok=True)
+        (shutil.copytree if os.path.isdir(here) else shutil.copy)(here, there)
+    write(os.path.join(home, "specs", "Lib.antt"), "pub mod Lines\n")
+    write(os.path.join(home, "proofs", "Lib.antt"), "pub mod FaultLines\n")
     write(os.path.join(home, "src", "main.rt"), PROGRAM)
     # A word, so that what is run here to the end of the build is the short run.
     subprocess.run(["rt", "run", "--", "build"], cwd=home, check=True, stdout=subprocess.DEVNULL)
-    return os.path.join(home, "out", "parse_bench")
+    return os.path.join(home, "out", "pebble_cli")
 
 
 def run(program, *words):
@@ -154,6 +191,11 @@ def main():
             passed, parsed = (min(round[at] for round in rounds) for at in (0, 1))
             print(f"{script}, {call}: {rounds[0][2]} lines, best pass {passed / 1000:.1f} ms, best {parsed / 1000:.1f} ms, {parsed / passed:.1f} passes")
             print(f"    the first {rounds[0][1] / passed:.1f} passes; at the peak {(peak - without) / length:.1f} bytes a script byte")
+        lines, peak = run(program, script, "read_lines")
+        rounds = [[int(word) for word in re.findall(r"\d+", line)] for line in lines]
+        parsed, reading = (min(round[at] for round in rounds) for at in (0, 1))
+        print(f"{script}, read_lines: {rounds[0][2]} lines, best parse_numbered {parsed / 1000:.1f} ms, best {reading / 1000:.1f} ms, {reading / parsed:.2f}")
+        print(f"    the first {rounds[0][1] / rounds[0][0]:.2f}; at the peak {(peak - without) / length:.1f} bytes a script byte")
 
 
 if __name__ == "__main__":

@@ -73,21 +73,20 @@ texts_step lines ran state line rest one reply so_far is =
 
 -- ---- the lines of a script that are built
 
--- the steps that ran, against the trace and the store in memory
-pub record Going (steps rest : List Step) (marks : List Mark) (store : Store) : Type 0 where
+-- the lines that ran, against the trace and the store in memory
+pub record Going (lines rest : List Line) (marks : List Mark) (store : Store) : Type 0 where
   pub ran : List Ran
   pub state : StoreState
-  pub so_far : Reaches (map as_line steps) ran (family state) (map as_line rest)
+  pub so_far : Reaches lines ran (family state) rest
   pub marked : marks ≡ marks_of ran
   pub named : AllByRecursion IsOfLog ran
   pub is_in : IsIn store state
 
-abbrev pub going_start : (steps left : List Step) (marks : List Mark) → left ≡ steps → marks ≡ [] → Going steps left marks Closed
-going_start steps left marks all none = record {
+abbrev pub going_start : (lines : List Line) (marks : List Mark) → marks ≡ [] → Going lines lines marks Closed
+going_start lines marks none = record {
   ran = [];
   state = unopened;
-  so_far = subst (λ (rest : List Step). Reaches (map as_line steps) [] (family unopened) (map as_line rest)) (sym all)
-      (subst (λ (state : FamilyState). Reaches (map as_line steps) [] state (map as_line steps)) (sym family_start) (reaches_start (map as_line steps)));
+  so_far = subst (λ (state : FamilyState). Reaches lines [] state lines) (sym family_start) (reaches_start lines);
   marked = none;
   named = tt;
   is_in = (refl, refl);
@@ -113,32 +112,32 @@ named_step [] one named is = (is, tt)
 named_step (r ∷ ran) one named is = (named.0, named_step ran one named.1 is)
 
 -- a step ran, and has its mark
-abbrev pub going_step : (steps left rest : List Step) (old new : List Mark) (before after : Store) (step : Step) (reply : Reply) → (going : Going steps left old before) → left ≡ step ∷ rest
+abbrev pub going_step : (lines left rest : List Line) (old new : List Mark) (before after : Store) (step : Step) (reply : Reply) → (going : Going lines left old before) → left ≡ as_line step ∷ rest
     → ((state : StoreState) → IsIn before state → reply ≡ step_reply state step (ran_of reply after))
     → ((state : StoreState) → IsIn before state → IsIn after (step_after state step (ran_of reply after)))
-    → new ≡ old ++ (ran_of reply after).mark ∷ [] → Going steps rest new after
-going_step steps left rest old new before after step reply going next is state marks =
+    → new ≡ old ++ (ran_of reply after).mark ∷ [] → Going lines rest new after
+going_step lines left rest old new before after step reply going next is state marks =
     let one = ran_of reply after in
     let is_in = state going.state going.is_in in
     record {
       ran = going.ran ++ one ∷ [];
       state = step_after going.state step one;
-      so_far = subst (λ (s : FamilyState). Reaches (map as_line steps) (going.ran ++ one ∷ []) s (map as_line rest)) (family_after going.state step one)
-          (reaches_step (map as_line steps) going.ran (family going.state) (as_line step) (map as_line rest) one reply
-          (subst (λ (l : List Step). Reaches (map as_line steps) going.ran (family going.state) (map as_line l)) next going.so_far)
+      so_far = subst (λ (s : FamilyState). Reaches lines (going.ran ++ one ∷ []) s rest) (family_after going.state step one)
+          (reaches_step lines going.ran (family going.state) (as_line step) rest one reply
+          (subst (λ (l : List Line). Reaches lines going.ran (family going.state) l) next going.so_far)
           (step_comes after going.state step reply (is going.state going.is_in) is_in));
       marked = marks ∙ ap (λ m. m ++ one.mark ∷ []) going.marked ∙ sym (map-append (λ (r : Ran). r.mark) going.ran (one ∷ []));
       named = named_step going.ran one going.named refl;
       is_in = is_in;
     }
 
-pub texts_ran : (steps left rest : List Step) (old : List Mark) (before after : Store) (step : Step) (reply : Reply) → (going : Going steps left old before) → left ≡ step ∷ rest
+pub texts_ran : (lines left rest : List Line) (old : List Mark) (before after : Store) (step : Step) (reply : Reply) → (going : Going lines left old before) → left ≡ as_line step ∷ rest
     → ((state : StoreState) → IsIn before state → reply ≡ step_reply state step (ran_of reply after))
     → ((state : StoreState) → IsIn before state → IsIn after (step_after state step (ran_of reply after)))
-    → texts (map as_line steps) (going.ran ++ ran_of reply after ∷ []) ≡ texts (map as_line steps) going.ran ++ printed reply
-texts_ran steps left rest old before after step reply going next is state =
-    texts_step (map as_line steps) going.ran (family going.state) (as_line step) (map as_line rest) (ran_of reply after) reply
-    (subst (λ (l : List Step). Reaches (map as_line steps) going.ran (family going.state) (map as_line l)) next going.so_far)
+    → texts lines (going.ran ++ ran_of reply after ∷ []) ≡ texts lines going.ran ++ printed reply
+texts_ran lines left rest old before after step reply going next is state =
+    texts_step lines going.ran (family going.state) (as_line step) rest (ran_of reply after) reply
+    (subst (λ (l : List Line). Reaches lines going.ran (family going.state) l) next going.so_far)
     (step_comes after going.state step reply (is going.state going.is_in) (state going.state going.is_in))
 
 pub part_step : (before text now more : List ℕ) → TakesPart (before ++ text) now more → TakesPart before now (text ++ more)

@@ -8,8 +8,7 @@ use Rattle.pb_bytes.proofs.ReadingLemmas.{one_field}
 use Rattle.pebble_cli.specs.Settings.{Set, IsSet, Rises, AreSets, payload_of, map_after, count_after}
 use Rattle.pebble_cli.specs.Folder.{Make, IsRead}
 use Rattle.pb_keys.specs.Map.{Map}
-use Rattle.pebble_cli.specs.Words.{is_word, IsWord}
-use Rattle.pebble_cli.proofs.SettingFacts.{same_count, word_short}
+use Rattle.pebble_cli.proofs.SettingFacts.{same_count, name_short}
 
 -- ---- one payload, one command
 
@@ -21,8 +20,8 @@ pub record SameSet (a b : Set) : Type 0 where
 pub same_set : (a b : Set) → a.count < 2 ^ 62 → b.count < 2 ^ 62 → length a.key < 2 ^ 64 → length a.value < 2 ^ 64 → IsSet b → payload_of a ≡ payload_of b → SameSet a b
 same_set a b low below short_key short_value is e =
     let counts = same_count a.count b.count (field a.key ++ field a.value) (field b.key ++ field b.value) low below e in
-    let keys = one_field a.key b.key (field a.value) (field b.value) short_key (word_short b.key is.key) counts.1 in
-    let values = one_field a.value b.value [] [] short_value (word_short b.value is.value) (append-nil (field a.value) ∙ keys.1 ∙ sym (append-nil (field b.value))) in
+    let keys = one_field a.key b.key (field a.value) (field b.value) short_key (name_short b.key is.key) counts.1 in
+    let values = one_field a.value b.value [] [] short_value (name_short b.value is.value) (append-nil (field a.value) ∙ keys.1 ∙ sym (append-nil (field b.value))) in
     record { count = counts.0; key = keys.0; value = values.0 }
 
 set_is : (a b : Set) → SameSet a b → a ≡ b
@@ -32,7 +31,7 @@ set_is a b same =
     ∙ ap (λ v. record { count = b.count; key = b.key; value = v }) same.value
 
 one_set : (a b : Set) → IsSet a → IsSet b → payload_of a ≡ payload_of b → a ≡ b
-one_set a b is other e = set_is a b (same_set a b is.count other.count (word_short a.key is.key) (word_short a.value is.value) other e)
+one_set a b is other e = set_is a b (same_set a b is.count other.count (name_short a.key is.key) (name_short a.value is.value) other e)
 
 head_of : (a b : List ℕ) (xs ys : List (List ℕ)) → a ∷ xs ≡ b ∷ ys → a ≡ b
 head_of a b xs ys e = cc
@@ -180,13 +179,6 @@ read_next list payload rest least n m l so_far make =
     subst (Next payload) (sym so_far.bound)
     (next so_far.sets make.sets payload rest so_far.are.each make.are.each make.are.rises
     (ap (λ front. front ++ payload ∷ rest) (sym so_far.are.spelled) ∙ make.are.spelled))
-
--- a word is read as one
-pub no_word : (read : Option (List ℕ)) (bytes other : List ℕ) → read ≡ (if is_word bytes then Some bytes else None) → read ≡ None → IsWord other → bytes ≡ other → ⊥
-no_word read bytes other is none word same =
-    let w : is_word bytes ≡ true = ap is_word same ∙ word in
-    let some : read ≡ Some bytes = is ∙ ap (λ b. if b then Some bytes else None) w in
-    cc
 
 pub next_from : (list : List (List ℕ)) (payload : List ℕ) (i least n : ℕ) (m l : Map) → i < length list → payload ≡ get_or list i payload → ReadTo (take i list) least m → Make list n l → Next payload least
 next_from list payload i least n m l within is so_far make =

@@ -1,12 +1,9 @@
 -- A payload spells one command at most.
-use Rattle.std.proofs.Common.{◌≡◌, ℕ, ◌<◌, ◌^◌, List, [], ◌∷◌, ◌++◌, length, take, drop, ◌-◌, Option, None, IfNone, refl, sym, ◌∙◌, subst, ap, arith, append-nil, true, false, Bool, ◌&&◌, leb}
-use Rattle.std.proofs.lemmas.Bool.{leb-true}
-use Rattle.std.specs.List.{list_all}
-use Rattle.pebble_cli.specs.Words.{is_word_byte}
+use Rattle.std.proofs.Common.{◌≡◌, ℕ, ◌<◌, ◌^◌, List, [], ◌∷◌, ◌++◌, length, take, drop, ◌-◌, Option, None, IfNone, refl, sym, ◌∙◌, subst, ap, arith, append-nil}
 use Rattle.pb_bytes.specs.Varint.{varint, field}
 use Rattle.std.proofs.lemmas.List.{take-append-drop}
 use Rattle.pb_bytes.proofs.ReadingLemmas.{one_varint, one_field, rest_of}
-use Rattle.pebble_cli.specs.Words.{IsWord}
+use Rattle.pb_names.specs.Grammar.{IsName}
 use Rattle.pebble_cli.specs.Settings.{Set, IsSet, payload_of}
 
 -- what holds of no value holds of none
@@ -19,20 +16,8 @@ same_count m n x y low below e =
     let rest : 1 ∷ x ≡ 1 ∷ y = same.1 in
     (same.0, cc)
 
-first : (a b : Bool) → (a && b) ≡ true → a ≡ true
-first true b e = refl
-first false b e = e
-
-second : (a b : Bool) → (a && b) ≡ true → b ≡ true
-second true b e = e
-second false b e = cc
-
-pub word_short : (bytes : List ℕ) → IsWord bytes → length bytes < 2 ^ 64
-word_short bytes word =
-    let a = leb 1 (length bytes) in
-    let b = leb (length bytes) 48 in
-    let within : leb (length bytes) 48 ≡ true = second a b (first (a && b) (list_all is_word_byte bytes) word) in
-    omega (arith, leb-true (length bytes) 48 within)
+pub name_short : (bytes : List ℕ) → IsName bytes → length bytes < 2 ^ 64
+name_short bytes is = omega (arith, is.short)
 
 -- behind a count, a kind and fields that begin a command's payload, the rest of the command stands
 pub behind_count : (payload rest : List ℕ) (count : ℕ) (set : Set) → count < 2 ^ 62 → IsSet set → payload ≡ varint count ++ 1 ∷ rest → payload ≡ payload_of set → rest ≡ field set.key ++ field set.value

@@ -1,5 +1,6 @@
 -- A step, as a line that the family's machine runs: it acts on store A alone.
-use Rattle.std.proofs.Common.{◌≡◌, ℕ, ◌==◌, Bool, true, false, if◌then◌else◌, List, Some, IsSomeAnd, refl, sym, ap, ◌∙◌, subst}
+use Rattle.std.proofs.Common.{◌≡◌, ℕ, suc, ◌+◌, ◌<◌, ◌==◌, Bool, true, false, if◌then◌else◌, List, ◌∷◌, length, get_or, drop, drop-cons, Some, IsSomeAnd, refl, sym, ap, ◌∙◌, subst, arith}
+use Rattle.pb_script.specs.declared.line.Line.{Line}
 use Rattle.pb_reply.specs.declared.reply.Reply.{Reply}
 use Rattle.pb_machine.specs.States.{StoreState, FamilyState, start, unopened, with_store, is_down}
 use Rattle.pb_machine.specs.Marks.{Ran, mark_of}
@@ -40,3 +41,10 @@ family_reply state (Get key) ran = refl
 
 pub family_mark : (reply : Reply) (state : StoreState) → mark_of reply (family state) ≡ mark_in reply (is_down state)
 family_mark reply state = refl
+
+-- the next of the lines that are left, as a step
+pub next_line : (lines : List Line) (place : ℕ) (line : Line) (step : Step) → place < length lines → line ≡ get_or lines place line → as_line step ≡ line
+    → drop place lines ≡ as_line step ∷ drop (place + 1) lines
+next_line lines place line step within item is =
+    drop-cons lines place line within ∙ ap (λ (l : Line). l ∷ drop (suc place) lines) (sym item ∙ sym is)
+    ∙ ap (λ (n : ℕ). as_line step ∷ drop n lines) (let e : suc place ≡ place + 1 = omega arith in e)

@@ -2,20 +2,26 @@
 use Rattle.std.specs.Prelude.{ℕ, Bool, false, ◌&&◌, ◌==◌, if◌then◌else◌, List, [], ◌∷◌, Option, Some, None}
 use Rattle.std.specs.Option.{option_or}
 use Rattle.pb_script.specs.Script.{NumberedRead, numbered, without_numbers}
+use Rattle.pb_names.specs.Ranges.{is_name}
+use Rattle.pb_script.specs.declared.command.Command.{Command}
 use Rattle.pb_script.specs.declared.command.Command.TheVariants.{Set, Get}
 use Rattle.pb_script.specs.declared.line.Line.{Line}
 use Rattle.pb_script.specs.declared.line.Line.TheVariants.{Open, Whole}
-use Rattle.pebble_cli.specs.Words.{is_word}
 
 -- the store that is built
 abbrev pub store_a : ℕ
 store_a = 1
 
+-- keys and values are names
+abbrev pub is_built_command : Command → Bool
+is_built_command (Set key value) = is_name key && is_name value
+is_built_command (Get key) = is_name key
+is_built_command command = false
+
 -- the other lines come later
 abbrev pub is_built : Line → Bool
 is_built (Open store) = store == store_a
-is_built (Whole store (Set key value)) = store == store_a && is_word key && is_word value
-is_built (Whole store (Get key)) = store == store_a && is_word key
+is_built (Whole store command) = store == store_a && is_built_command command
 is_built line = false
 
 -- the number of the first line that isn't built

@@ -3,7 +3,7 @@ use Rattle.std.specs.Prelude.{◌≡◌, ℕ, ◌<◌, ◌^◌, List, [], ◌∷
 use Rattle.std.specs.List.{AllByRecursion}
 use Rattle.std.specs.FinMap.{insert}
 use Rattle.pb_bytes.specs.Varint.{varint, field}
-use Rattle.pebble_cli.specs.Words.{IsWord}
+use Rattle.pb_names.specs.Grammar.{IsName}
 use Rattle.pb_keys.specs.Map.{Map}
 
 -- a key is set to a value; with this command the store has accepted so many
@@ -18,8 +18,8 @@ payload_of set = varint set.count ++ 1 ∷ (field set.key ++ field set.value)
 
 pub record IsSet (set : Set) : Type 0 where
   pub count : set.count < 2 ^ 62
-  pub key : IsWord set.key
-  pub value : IsWord set.value
+  pub key : IsName set.key
+  pub value : IsName set.value
 
 -- each count is above the one before
 abbrev pub Rises : List Set → Type 0

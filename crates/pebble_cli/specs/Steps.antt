@@ -1,5 +1,4 @@
 -- The lines that are built.
-use Rattle.std.specs.Prelude.{◌≡◌, true, false, Option, Some, None}
 use Rattle.pb_script.specs.declared.command.Command.TheVariants as command
 use Rattle.pb_script.specs.declared.line.Line.{Line}
 use Rattle.pb_script.specs.declared.line.Line.TheVariants as line
@@ -7,7 +6,7 @@ use Rattle.pb_reply.specs.declared.reply.Reply.{Reply}
 use Rattle.pb_machine.specs.States.{StoreState}
 use Rattle.pb_machine.specs.Marks.{Ran}
 use Rattle.pb_machine.specs.Stores.{opening_after, opening_reply, command_after, changing_reply, get_reply}
-use Rattle.pebble_cli.specs.Lines.{is_built, store_a}
+use Rattle.pebble_cli.specs.Lines.{store_a}
 use Rattle.pebble_cli.specs.declared.step.Step.{Step}
 use Rattle.pebble_cli.specs.declared.step.Step.TheVariants.{Open, Set, Get}
 
@@ -15,11 +14,6 @@ abbrev pub as_line : Step → Line
 as_line Open = line.Open store_a
 as_line (Set key value) = line.Whole store_a (command.Set key value)
 as_line (Get key) = line.Whole store_a (command.Get key)
-
--- the step that a line is, None where it isn't built
-abbrev pub IsStepOf : Line → Option Step → Type 0
-IsStepOf line None = is_built line ≡ false
-IsStepOf line (Some step) = (is_built line ≡ true) × (as_line step ≡ line)
 
 -- the state of store A after a step
 abbrev pub step_after : StoreState → Step → Ran → StoreState

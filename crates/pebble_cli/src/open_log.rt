@@ -10,7 +10,7 @@ ghost use Rattle.pb_keys.specs.Map.{Map};
 use crate::pairs::Pairs;
 use crate::setting::read_setting;
 use crate::store_error::StoreError;
-use crate::word::Word;
+use crate::word::{Word, are_names};
 use pb_devices::{Disk, Fault};
 use pb_gate_log::{GateLog, open_or_create};
 use pb_keys::Bytes;
@@ -69,12 +69,11 @@ fn read_payload(
     if setting.count < least {
         return Err(StoreError::Damaged);
     }
-    let Some(key) = Word::new(alloc, setting.key)? else {
+    if !are_names(setting.key, setting.value) {
         return Err(StoreError::Damaged);
-    };
-    let Some(value) = Word::new(alloc, setting.value)? else {
-        return Err(StoreError::Damaged);
-    };
+    }
+    let key = Word::new(alloc, setting.key)?;
+    let value = Word::new(alloc, setting.value)?;
     pairs.set(key, value)?;
     Ok(setting.count)
 }

@@ -1,12 +1,13 @@
 ghost use Rattle.std.specs.Prelude.{◌≡◌, ◌+◌, ◌≤◌, ◌++◌, ◌∷◌, ◌⊎◌, ◌≢◌, [], true, List, length, map, string_bytes, MatchBool, Option, ℕ};
 ghost use Rattle.pb_devices.specs.Contents.{MayLeave};
 ghost use Rattle.pb_devices.specs.Counts.{Rose};
-ghost use Rattle.pebble_cli.specs.Lines.{fault_line};
+ghost use Rattle.std.specs.List.{list_all};
+ghost use Rattle.pebble_cli.specs.Lines.{is_built, fault_line};
 ghost use Rattle.pb_gate_log.specs.Payloads.{payloads_in};
 ghost use Rattle.pebble_cli.specs.Folder.{log_name, HasFrom};
 ghost use Rattle.pebble_cli.specs.Headline.{Headline, IsGood, IsSpoilt};
 ghost use Rattle.pb_machine.specs.States.{StoreState};
-ghost use Rattle.pebble_cli.specs.Steps.{as_line, step_after, step_reply};
+ghost use Rattle.pebble_cli.specs.Steps.{step_after, step_reply};
 ghost use Rattle.pebble_cli.specs.Usage.{is_run};
 ghost use Rattle.pebble_cli.specs.StoreStates.{IsIn, Keeps, Finds, HasReplyCause, IsSetBy, map_in, ran_of};
 ghost use Rattle.pebble_cli.specs.Runs.{script as script_task, fault, usage, task_of, task_of_source, task_of_script, lines_due, has_damage, IsReadWhole, IsWhole, IsCutShort, IsBeforeLines, Ends, Prints, Causes, Comes};
@@ -20,7 +21,7 @@ use crate::store::Store;
 use crate::usage::asks_to_run;
 use pb_devices::{Bucket, Disk, Sink, Source, Trace};
 use pb_reply::{Reply, Status};
-use pb_script::ParseError;
+use pb_script::{Line, ParseError};
 use std::alloc::Global;
 
 /// The text for words that aren't the usage.
@@ -136,7 +137,7 @@ fn run_script<O: Sink, D: Disk>(
     ensures untouched { IsBeforeLines result → disk.new ≡ disk.old }
 {
     match read_lines(alloc, script) {
-        Ok(steps) => run_steps(alloc, steps, out, disk, trace),
+        Ok(lines) => run_lines(alloc, &lines, out, disk, trace),
         Err(ParseError::Fault(number)) => say_fault(alloc, number, out),
         Err(ParseError::NoMemory) => Status::Memory,
     }
@@ -156,32 +157,36 @@ fn say_fault<O: Sink>(alloc: Global, number: u64, out: &mut O) -> Status
     }
 }
 
-/// Runs the lines of a script in order.
-fn run_steps<O: Sink, D: Disk>(
+/// Runs the lines of a script in order. Each is made a step when its turn comes.
+fn run_lines<O: Sink, D: Disk>(
     alloc: Global,
-    steps: Vec<Step>,
+    lines: &[Line],
     out: &mut O,
     disk: &mut D,
     trace: &mut Trace,
 ) -> Status
-    requires { trace.old.marks ≡ [] }
-    ensures comes { Comes (script_task (map as_line steps.items)) result trace.new.marks
-        (λ ran. O.told ≡ true → Prints (script_task (map as_line steps.items)) result ran
+    requires built { list_all is_built lines.now ≡ true }
+    requires empty { trace.old.marks ≡ [] }
+    ensures comes { Comes (script_task lines.now) result trace.new.marks
+        (λ ran. O.told ≡ true → Prints (script_task lines.now) result ran
         (O.taken out.old) (O.taken out.new) (O.fault_count out.old) (O.fault_count out.new))
         (λ ran. D.told ≡ true → IsGood (D.contents disk.old)
-        → Headline (D.contents disk.old) (D.contents disk.new) (map as_line steps.items) ran) }
+        → Headline (D.contents disk.old) (D.contents disk.new) lines.now ran) }
     ensures status { IsWhole result ⊎ IsCutShort result }
     ensures causes { Causes result trace.new.marks (O.fault_count out.old) (O.fault_count out.new) }
     ensures device { result ≡ Status.Device → Rose (D.fault_count disk.old) (D.fault_count disk.new) }
     ensures damaged { D.told ≡ true → has_damage trace.new.marks ≡ true → IsSpoilt (D.contents disk.old) }
 {
-    if trace.reserve(alloc, steps.len() as u64).is_err() {
+    if trace.reserve(alloc, lines.len() as u64).is_err() {
         return Status::Memory;
     }
     let mut store = Store::Closed;
     let mut text = Vec::new(alloc);
     let mut status = Status::Success;
-    for step in steps {
+    for line in lines {
+        let Ok(step) = Step::new(alloc, line) else {
+            return Status::Memory;
+        };
         let reply = run_step(&mut store, alloc, disk, step, trace);
         status = status_with(status, &reply);
         if let Err(early) = print_reply(alloc, reply, &mut text, out) {

@@ -1,11 +1,9 @@
-ghost use Rattle.std.specs.Prelude.{◌≡◌, IfOk};
-ghost use Rattle.pb_script.specs.declared.command.Command.TheVariants as command;
+ghost use Rattle.std.specs.Prelude.{◌≡◌, true, IfOk};
 ghost use Rattle.pb_script.specs.declared.line.Line.TheVariants as line;
-ghost use Rattle.pebble_cli.specs.Lines.{store_a};
-ghost use Rattle.pebble_cli.specs.Steps.{IsStepOf};
+ghost use Rattle.pebble_cli.specs.Lines.{store_a, is_built, is_built_command};
+ghost use Rattle.pebble_cli.specs.Steps.{as_line};
 
 use crate::word::Word;
-use pb_keys::Bytes;
 use pb_script::{Command, Line};
 use std::alloc::{AllocError, Global};
 
@@ -20,50 +18,31 @@ pub enum Step {
     Get(Word),
 }
 
-/// The number of the one store that is built.
-const STORE_A: u64 = 1;
-
 impl Step {
-    /// The step that a line is, `None` where the line isn't built yet.
-    pub fn new(alloc: Global, line: &Line) -> Result<Option<Step>, AllocError>
-        ensures { IfOk result (IsStepOf line.now) }
+    /// The step that a line is which is built.
+    pub fn new(alloc: Global, line: &Line) -> Result<Step, AllocError>
+        requires { is_built line.now ≡ true }
+        ensures { IfOk result (λ step. as_line step ≡ line.now) }
     {
         match line {
-            Line::Open(store) if *store == STORE_A => Ok(Some(Step::Open)),
-            Line::Whole { store, command } if *store == STORE_A => command_step(alloc, command),
-            _ => Ok(None),
+            Line::Open(_) => Ok(Step::Open),
+            Line::Whole { command, .. } => Step::of_command(alloc, command),
+            _ => unreachable!(),
         }
     }
-}
 
-/// The step of a command to store A.
-fn command_step(alloc: Global, command: &Command) -> Result<Option<Step>, AllocError>
-    ensures { IfOk result (IsStepOf (line.Whole store_a command.now)) }
-{
-    match command {
-        Command::Set { key, value } => set_step(alloc, key, value),
-        Command::Get(key) => get_step(alloc, key),
-        _ => Ok(None),
+    fn of_command(alloc: Global, command: &Command) -> Result<Step, AllocError>
+        requires { is_built_command command.now ≡ true }
+        ensures { IfOk result (λ step. as_line step ≡ line.Whole store_a command.now) }
+    {
+        match command {
+            Command::Set { key, value } => {
+                let key = Word::new(alloc, key.as_slice())?;
+                let value = Word::new(alloc, value.as_slice())?;
+                Ok(Step::Set(key, value))
+            }
+            Command::Get(key) => Ok(Step::Get(Word::new(alloc, key.as_slice())?)),
+            _ => unreachable!(),
+        }
     }
-}
-
-fn set_step(alloc: Global, key: &Bytes, value: &Bytes) -> Result<Option<Step>, AllocError>
-    ensures { IfOk result (IsStepOf (line.Whole store_a (command.Set key.now value.now))) }
-{
-    let Some(key) = Word::new(alloc, key.as_slice())? else {
-        return Ok(None);
-    };
-    let Some(value) = Word::new(alloc, value.as_slice())? else {
-        return Ok(None);
-    };
-    Ok(Some(Step::Set(key, value)))
-}
-
-fn get_step(alloc: Global, key: &Bytes) -> Result<Option<Step>, AllocError>
-    ensures { IfOk result (IsStepOf (line.Whole store_a (command.Get key.now))) }
-{
-    let Some(key) = Word::new(alloc, key.as_slice())? else {
-        return Ok(None);
-    };
-    Ok(Some(Step::Get(key)))
 }

@@ -1,22 +1,19 @@
-ghost use Rattle.std.specs.Prelude.{◌≡◌, IfOk, if◌then◌else◌};
+ghost use Rattle.std.specs.Prelude.{◌≡◌, ◌↔◌, IsTrue, IfOk};
 ghost use Rattle.std.proofs.Common.{rules};
 ghost use Rattle.std.proofs.lemmas.Cmp.{nat_list_cmp_total};
 ghost use Rattle.std.specs.Cmp.{partial_order_from_own_ties};
 ghost use Rattle.std.specs.Cmp.Lexicographic.{slice_cmp};
 ghost use Rattle.std.specs.Cmp.Rules.{comparing};
 ghost use Rattle.std.specs.Ordering.{nat_cmp, as_partial_cmp};
-ghost use Rattle.std.specs.List.{list_all};
 ghost use Rattle.std.specs.Str.{bytes_eq};
-ghost use Rattle.pebble_cli.specs.Words.{is_word, is_word_byte};
+ghost use Rattle.pb_names.specs.Grammar.{IsName};
 
+use pb_names::is_name;
 use std::alloc::{AllocError, Global};
 use std::cmp::Ordering;
 use std::marker::Model;
 
-/// The longest word, in bytes.
-pub const MAX_WORD: usize = 48;
-
-/// A key or a value: 1 to 48 bytes of `a` to `z`, `0` to `9`, `_` and `-`.
+/// A key or a value: the bytes of a name.
 #[derive(Drop)]
 pub struct Word {
     text: String,
@@ -24,29 +21,27 @@ pub struct Word {
 
 impl Model for Word {
     ghost use Rattle.std.specs.Prelude.{ℕ, List, string_bytes};
-    ghost use Rattle.pebble_cli.specs.Words.{IsWord};
+    ghost use Rattle.pb_names.specs.Grammar.{IsName};
 
     ghost Value = { List ℕ };
 
     ghost view = { λ w. string_bytes w.text };
 
-    ghost invariant = { λ w. IsWord (string_bytes w.text) };
+    ghost invariant = { λ w. IsName (string_bytes w.text) };
 }
 
 impl Word {
-    /// The word of these bytes, `None` where they are no word.
+    /// The word of these bytes.
     #[tactic(auto, using(crate::proofs::WordBytes::utf8_word))]
-    pub fn new(alloc: Global, bytes: &[u8]) -> Result<Option<Word>, AllocError>
-        ensures { IfOk result (λ word. word ≡ (if is_word bytes.now then Some bytes.now else None)) }
+    pub fn new(alloc: Global, name: &[u8]) -> Result<Word, AllocError>
+        requires { IsName name.now }
+        ensures { IfOk result (λ word. word ≡ name.now) }
     {
-        if !is_word(bytes) {
-            return Ok(None);
-        }
-        match str::from_utf8(bytes) {
-            Ok(text) => Ok(Some(Word {
+        match str::from_utf8(name) {
+            Ok(text) => Ok(Word {
                 text: String::from_str(alloc, text)?,
-            })),
-            Err(_) => Ok(None),
+            }),
+            Err(_) => unreachable!(),
         }
     }
 
@@ -97,20 +92,9 @@ impl Ord for Word {
     }
 }
 
-fn is_word(bytes: &[u8]) -> bool
-    ensures { result ≡ is_word bytes.now }
+/// Whether both a key and a value are names, as words are.
+pub fn are_names(key: &[u8], value: &[u8]) -> bool
+    ensures { IsTrue result ↔ (IsName key.now × IsName value.now) }
 {
-    1 <= bytes.len() && bytes.len() <= MAX_WORD && are_word_bytes(bytes)
-}
-
-fn are_word_bytes(bytes: &[u8]) -> bool
-    ensures { result ≡ list_all is_word_byte bytes.now }
-{
-    bytes.iter().all(|byte| is_word_byte(*byte))
-}
-
-fn is_word_byte(byte: u8) -> bool
-    ensures { result ≡ is_word_byte byte }
-{
-    (b'a' <= byte && byte <= b'z') || (b'0' <= byte && byte <= b'9') || byte == b'_' || byte == b'-'
+    is_name(key) && is_name(value)
 }

@@ -10,11 +10,11 @@ use Rattle.pebble_cli.proofs.run.run_script.Goals as goal
 pub returns-in-Ok-clause-comes : goal.returns-in-Ok-clause-comes
 returns-in-Ok-clause-comes g c =
     let bytes = c.args.script.now in
-    subst (λ (task : Task). Comes task c.run_steps.result c.run_steps.new.trace.marks
-    (λ (ran : List Ran). g.O.Sink.told ≡ true → Prints task c.run_steps.result ran (g.O.Sink.taken c.args.out.now) (g.O.Sink.taken c.run_steps.new.out) (g.O.Sink.fault_count c.args.out.now) (g.O.Sink.fault_count c.run_steps.new.out))
-    (λ (ran : List Ran). g.D.Disk.told ≡ true → IsGood (g.D.Disk.contents c.args.disk.now) → Headline (g.D.Disk.contents c.args.disk.now) (g.D.Disk.contents c.run_steps.new.disk) (lines_due task) ran))
-    (ap script c.in-Ok.ensures.ok.1 ∙ ap (task_of_script bytes) (sym c.in-Ok.ensures.ok.0))
-    c.run_steps.ensures.comes
+    subst (λ (task : Task). Comes task c.run_lines.result c.run_lines.new.trace.marks
+    (λ (ran : List Ran). g.O.Sink.told ≡ true → Prints task c.run_lines.result ran (g.O.Sink.taken c.args.out.now) (g.O.Sink.taken c.run_lines.new.out) (g.O.Sink.fault_count c.args.out.now) (g.O.Sink.fault_count c.run_lines.new.out))
+    (λ (ran : List Ran). g.D.Disk.told ≡ true → IsGood (g.D.Disk.contents c.args.disk.now) → Headline (g.D.Disk.contents c.args.disk.now) (g.D.Disk.contents c.run_lines.new.disk) (lines_due task) ran))
+    (ap script (c.deref.ensures.value ∙ c.in-Ok.ensures.ok.1) ∙ ap (task_of_script bytes) (sym c.in-Ok.ensures.ok.0))
+    c.run_lines.ensures.comes
 
 pub returns-in-Err-Fault-clause-comes : goal.returns-in-Err-Fault-clause-comes
 returns-in-Err-Fault-clause-comes g c =

@@ -2,7 +2,7 @@ use Rattle.std.proofs.Common.{◌+◌, ◌∙◌, List, ℕ, refl, sym, ap, subs
 use Rattle.pebble_cli.specs.Folder.{KeepsLog}
 use Rattle.pebble_cli.specs.Settings.{IsSet, payload_of}
 use Rattle.pebble_cli.specs.Store.{Held}
-use Rattle.pebble_cli.specs.Words.{IsWord}
+use Rattle.pb_names.specs.Grammar.{IsName}
 use Rattle.pb_devices.specs.Contents.{MayLeave}
 use Rattle.pebble_cli.proofs.LoggedFacts.{next_set, logged, left_held}
 use Rattle.pebble_cli.proofs.opened.Opened.set.Goals as goal
@@ -16,7 +16,7 @@ returns-clause-crash g c = λ told image fault left.
     ∙ ap (λ k. payload_of (record { count = c.self.inside.count + 1; key = k; value = c.as_bytes-2.result.now })) (c.as_bytes.ensures.value ∙ c.as_str.ensures)
     ∙ ap (λ v. payload_of (record { count = c.self.inside.count + 1; key = c.args.key; value = v })) (c.as_bytes-2.ensures.value ∙ c.as_str-2.ensures) in
     let is : IsSet (next_set held c.args.key c.args.value) =
-    record { count = omega (arith, c.if-self-ge-COUNTS.false); key = subst IsWord c.key.view_is c.key.invariant; value = subst IsWord c.value.view_is c.value.invariant } in
+    record { count = omega (arith, c.if-self-ge-COUNTS.false); key = subst IsName c.key.view_is c.key.invariant; value = subst IsName c.value.view_is c.value.invariant } in
     left_held held c.args.self.now c.deref.result.now c.args.key c.args.value old image c.self.view_is keeps spelled is
     ((c.in-Err.ensures.appends told).crash keeps.list image keeps.log (subst (λ (name : List ℕ). MayLeave (g.D.Disk.contents c.set_logged.new.disk) name image) (sym keeps.file) left))
 
@@ -30,6 +30,6 @@ returns-in-Ok-clause-kept g c = λ told.
     ∙ ap (λ k. payload_of (record { count = c.self.inside.count + 1; key = k; value = c.as_bytes-2.result.now })) (c.as_bytes.ensures.value ∙ c.as_str.ensures)
     ∙ ap (λ v. payload_of (record { count = c.self.inside.count + 1; key = c.args.key; value = v })) (c.as_bytes-2.ensures.value ∙ c.as_str-2.ensures) in
     let is : IsSet (next_set held c.args.key c.args.value) =
-    record { count = omega (arith, c.if-self-ge-COUNTS.false); key = subst IsWord c.key.view_is c.key.invariant; value = subst IsWord c.value.view_is c.value.invariant } in
+    record { count = omega (arith, c.if-self-ge-COUNTS.false); key = subst IsName c.key.view_is c.key.invariant; value = subst IsName c.value.view_is c.value.invariant } in
     logged held new c.deref.result.now c.args.key c.args.value old (g.D.Disk.contents c.set_logged.new.disk) keeps (c.in-Ok.ensures.appends told).file refl c.in-Ok.ensures.map spelled is
     ((c.in-Ok.ensures.appends told).ok keeps.list keeps.log)

@@ -5,3 +5,5 @@ pub mod OrderFacts
 pub mod EndFacts
 pub mod SpanFacts
 pub mod Tests
+pub mod Lists
+pub mod Options

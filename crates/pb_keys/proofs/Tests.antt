@@ -52,3 +52,15 @@ pub one_below_first : (x y : Bool) → (y ≡ true → x ≡ true) → x ≡ (x 
 one_below_first true y h = refl
 one_below_first false true h = cc (h refl)
 one_below_first false false h = refl
+
+-- ---- what one test says of the other
+
+pub second_is_false : (a b : Bool) → (a && b) ≡ false → a ≡ true → b ≡ false
+second_is_false true b h k = h
+second_is_false false b h k = cc
+
+-- two tests that are met together are the same
+pub same_tests : (a b : Bool) → (a ≡ true → b ≡ true) → (b ≡ true → a ≡ true) → a ≡ b
+same_tests true b forth back = sym (forth refl)
+same_tests false true forth back = back refl
+same_tests false false forth back = refl

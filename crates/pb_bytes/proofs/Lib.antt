@@ -4,3 +4,4 @@ pub mod ReadingLemmas
 pub mod Places
 pub mod Examples
 pub mod Lists
+pub mod Steps

@@ -1,6 +1,11 @@
 -- The number or the field that begins bytes, with the length of its spelling or with the bytes behind it.
 use Rattle.std.specs.Prelude.{ℕ, zero, suc, ◌+◌, ◌*◌, ◌-◌, ◌^◌, ◌==◌, List, [], ◌∷◌, length, take, drop, nat_lt, nat_le, if◌then◌else◌, Option, Some, None, option_map, option_and_then}
 
+infixl 10 ◌>>=◌
+abbrev pub ◌>>=◌ : {A B : Type 0} → Option A → (A → Option B) → Option B
+(Some x) >>= f = f x
+None >>= f = None
+
 -- with a lower group below it; a last group of 0 would be a longer spelling
 abbrev pub above : ℕ → Option (ℕ × ℕ) → Option (ℕ × ℕ)
 above low None = None

@@ -1,161 +1,15 @@
--- What the payloads of a catalogue that are left say, behind those that were read.
-use Rattle.std.proofs.Common.{◌≡◌, ℕ, ◌+◌, ◌<◌, drop, get_or, length, List, [], ◌∷◌, ◌++◌, map, cond, true, false, Option, Some, None, refl, sym, ap, ◌∙◌, subst}
+-- What was entered is in form, whatever payloads behind it say.
+use Rattle.std.proofs.Common.{◌≡◌, ℕ, List, [], ◌∷◌, ◌++◌, cond, true, false, Some, None, subst}
 use Rattle.std.proofs.lemmas.List.Elements.{All-nil, All-cons, All-head, All-tail, All-append, All-filter}
-use Rattle.std.proofs.lemmas.List.{drop_more}
-use Rattle.std.specs.Prelude.{not}
+use Rattle.std.proofs.lemmas.Option.{same_Some}
 use Rattle.std.specs.List.{All}
-use Rattle.std.specs.Option.{option_and_then, option_map}
-use Rattle.pb_payloads.specs.Catalogue.{Catalogue, Entries, SaysCatalogue, dropped, entries_after, entries_from, folded, is_of, stands, with_id}
-use Rattle.pb_payloads.specs.Catalogued.{Catalogued, IsCatalogued, catalogued_spelling}
+use Rattle.std.specs.Prelude.{not}
+use Rattle.pb_payloads.specs.Catalogue.{Entries, dropped, entries_after, entries_from, is_of, stands}
+use Rattle.pb_payloads.specs.Catalogued.{Catalogued, IsCatalogued}
 use Rattle.pb_payloads.specs.Catalogued.Catalogued.{Id, Entered, Dropped}
-use Rattle.pb_payloads.proofs.CataloguedLaws.{one_catalogued}
+use Rattle.pb_payloads.specs.Left.{ChangesTo}
+use Rattle.pb_payloads.proofs.CatalogueFolds.{reached}
 use Rattle.pb_catalog.specs.Catalog.{IsEntered}
-use Rattle.pb_catalog.specs.Left.{ChangesTo, IsChange}
-
--- the item that is read, and what it was made, stand first among those that are left
-pub item_first : {X : Type 0} (xs : List X) (i : ℕ) (x read : X) → i < length xs → x ≡ get_or xs i x → read ≡ x → drop i xs ≡ read ∷ drop (i + 1) xs
-item_first xs i x read within is same = drop_more xs i x within ∙ ap (λ y. y ∷ drop (i + 1) xs) (sym (same ∙ is))
-
-head_of : (x y : List ℕ) (xs ys : List (List ℕ)) → x ∷ xs ≡ y ∷ ys → x ≡ y
-head_of x y xs ys same = cc
-
-tail_of : (x y : List ℕ) (xs ys : List (List ℕ)) → x ∷ xs ≡ y ∷ ys → xs ≡ ys
-tail_of x y xs ys same = cc
-
-one_of : {X : Type 0} (x y : X) → Some x ≡ Some y → x ≡ y
-one_of x y same = cc
-
-pub changes_behind : (payload : List ℕ) (rest : List (List ℕ)) (old mid new : Entries) → IsChange payload old mid → ChangesTo mid rest new
-    → ChangesTo old (payload ∷ rest) new
-changes_behind payload rest old mid new is on = record {
-  said = is.catalogued ∷ on.said;
-  spelled = λ i. is.spelled i ∷ on.spelled i;
-  in_form = All-cons IsCatalogued is.catalogued on.said is.in_form on.in_form;
-  folds = ap (option_and_then (λ (next : Entries). entries_from next on.said)) is.after ∙ on.folds;
-}
-
--- the first of the payloads is such a change, and the others go on from there
-pub record NextChange (payload : List ℕ) (rest : List (List ℕ)) (old new : Entries) : Type 0 where
-  pub mid : Entries
-  pub is : IsChange payload old mid
-  pub later : ChangesTo mid rest new
-
-reached : (after : Option Entries) (said : List Catalogued) (new : Entries) → option_and_then (λ (next : Entries). entries_from next said) after ≡ Some new
-    → (mid : Entries) × (after ≡ Some mid) × (entries_from mid said ≡ Some new)
-reached None said new folds = cc
-reached (Some mid) said new folds = (mid, refl, folds)
-
-next_among : (payload : List ℕ) (rest : List (List ℕ)) (old new : Entries) (said : List Catalogued) → payload ∷ rest ≡ map catalogued_spelling said
-    → All IsCatalogued said → entries_from old said ≡ Some new → NextChange payload rest old new
-next_among payload rest old new [] spelled in_form folds = cc
-next_among payload rest old new (first ∷ said) spelled in_form folds =
-    let on = reached (entries_after old first) said new folds in
-    record {
-      mid = on.0;
-      is = record {
-        catalogued = first;
-        in_form = All-head IsCatalogued first said in_form;
-        spelled = head_of payload (catalogued_spelling first) rest (map catalogued_spelling said) spelled;
-        after = on.1;
-      };
-      later = record {
-        said = said;
-        spelled = tail_of payload (catalogued_spelling first) rest (map catalogued_spelling said) spelled;
-        in_form = All-tail IsCatalogued first said in_form;
-        folds = on.2;
-      };
-    }
-
-pub next_change : (payload : List ℕ) (rest : List (List ℕ)) (old new : Entries) → ChangesTo old (payload ∷ rest) new → NextChange payload rest old new
-next_change payload rest old new on = next_among payload rest old new on.said on.spelled on.in_form on.folds
-
--- a payload makes one list of entries
-pub one_change : (payload : List ℕ) (old one other : Entries) → IsChange payload old one → IsChange payload old other → one ≡ other
-one_change payload old one other a b =
-    let same = one_catalogued a.catalogued b.catalogued a.in_form.content b.in_form.content (sym a.spelled ∙ b.spelled) in
-    one_of one other (sym a.after ∙ ap (entries_after old) same ∙ b.after)
-
--- ---- all of them, and those that are left
-
--- the payloads that are left make of the entries now what all make of the first
-pub record AlikeOn (first now : Entries) (payloads left : List (List ℕ)) : Type 0 where
-  pub all : (new : Entries) → ChangesTo now left new → ChangesTo first payloads new
-  pub back : (new : Entries) → ChangesTo first payloads new → ChangesTo now left new
-
-pub alike_more : (first old mid : Entries) (payloads : List (List ℕ)) (payload : List ℕ) (rest : List (List ℕ))
-    → AlikeOn first old payloads (payload ∷ rest) → IsChange payload old mid → AlikeOn first mid payloads rest
-alike_more first old mid payloads payload rest alike is = record {
-  all = λ new on. alike.all new (changes_behind payload rest old mid new is on);
-  back = λ new on.
-      let next = next_change payload rest old new (alike.back new on) in
-      subst (λ (e : Entries). ChangesTo e rest new) (one_change payload old next.mid mid next.is is) next.later;
-}
-
-pub none_left : (entries : Entries) → ChangesTo entries [] entries
-none_left entries = record { said = []; spelled = refl; in_form = All-nil IsCatalogued; folds = refl }
-
--- ---- behind the id
-
-pub says_behind_id : (id : ℕ) (payload : List ℕ) (rest : List (List ℕ)) (entries : Entries) → IsCatalogued (Id id) → payload ≡ catalogued_spelling (Id id)
-    → ChangesTo [] rest entries → SaysCatalogue (payload ∷ rest) (with_id id entries)
-says_behind_id id payload rest entries is spelled on = record {
-  said = Id id ∷ on.said;
-  spelled = λ i. spelled i ∷ on.spelled i;
-  in_form = All-cons IsCatalogued (Id id) on.said is on.in_form;
-  folds = ap (option_map (with_id id)) on.folds;
-}
-
--- the id comes first, and the others make the entries
-pub record IsBehindId (id : ℕ) (payload : List ℕ) (rest : List (List ℕ)) (entries : Entries) : Type 0 where
-  pub in_form : IsCatalogued (Id id)
-  pub spelled : payload ≡ catalogued_spelling (Id id)
-  pub on : ChangesTo [] rest entries
-
-made_of : (one id : ℕ) (reached : Option Entries) (entries : Entries) → option_map (with_id one) reached ≡ Some (with_id id entries) → (one ≡ id) × (reached ≡ Some entries)
-made_of one id None entries same = cc
-made_of one id (Some found) entries same =
-    let catalogues = one_of (with_id one found) (with_id id entries) same in
-    (ap (λ (c : Catalogue). c.id) catalogues, ap (λ (c : Catalogue). Some c.entries) catalogues)
-
-behind_among : (id : ℕ) (payload : List ℕ) (rest : List (List ℕ)) (entries : Entries) (said : List Catalogued) → payload ∷ rest ≡ map catalogued_spelling said
-    → All IsCatalogued said → folded said ≡ Some (with_id id entries) → IsBehindId id payload rest entries
-behind_among id payload rest entries [] spelled in_form folds = cc
-behind_among id payload rest entries (Id one ∷ said) spelled in_form folds =
-    let made = made_of one id (entries_from [] said) entries folds in
-    record {
-      in_form = subst (λ (n : ℕ). IsCatalogued (Id n)) made.0 (All-head IsCatalogued (Id one) said in_form);
-      spelled = head_of payload (catalogued_spelling (Id one)) rest (map catalogued_spelling said) spelled ∙ ap (λ n. catalogued_spelling (Id n)) made.0;
-      on = record {
-        said = said;
-        spelled = tail_of payload (catalogued_spelling (Id one)) rest (map catalogued_spelling said) spelled;
-        in_form = All-tail IsCatalogued (Id one) said in_form;
-        folds = made.1;
-      };
-    }
-behind_among id payload rest entries (Entered number standing ∷ said) spelled in_form folds = cc
-behind_among id payload rest entries (Dropped number ∷ said) spelled in_form folds = cc
-
-pub behind_id : (id : ℕ) (payload : List ℕ) (rest : List (List ℕ)) (entries : Entries) → SaysCatalogue (payload ∷ rest) (with_id id entries)
-    → IsBehindId id payload rest entries
-behind_id id payload rest entries says = behind_among id payload rest entries says.said says.spelled says.in_form says.folds
-
-pub no_payloads : (id : ℕ) (entries : Entries) → SaysCatalogue [] (with_id id entries) → ⊥
-no_payloads id entries says = none says.said says.spelled says.folds
-  where
-    none : (said : List Catalogued) → [] ≡ map catalogued_spelling said → folded said ≡ Some (with_id id entries) → ⊥
-    none [] spelled folds = cc
-    none (first ∷ said) spelled folds = cc
-
--- ---- what is no change
-
-pub no_change : (payload : List ℕ) (old : Entries) (read : Catalogued) → IsCatalogued read → payload ≡ catalogued_spelling read → entries_after old read ≡ None
-    → (new : Entries) → IsChange payload old new → ⊥
-no_change payload old read in_form spelled none new is =
-    let same = one_catalogued is.catalogued read is.in_form.content in_form.content (sym is.spelled ∙ spelled) in
-    let after : Some new ≡ None = sym is.after ∙ ap (entries_after old) same ∙ none in
-    cc
-
--- ---- what was entered is in form
 
 entered_next : (old new : Entries) (more : Catalogued) → IsCatalogued more → All IsEntered old → entries_after old more ≡ Some new → All IsEntered new
 entered_next old new (Id id) in_form all after = cc
@@ -163,19 +17,19 @@ entered_next old new (Entered number standing) in_form all after =
     elim (stands number old) as (λ b. cond b None (Some (old ++ (number, standing) ∷ [])) ≡ Some new → All IsEntered new) [
       | true ↦ λ none. cc
       | false ↦ λ is.
-          subst (All IsEntered) (one_of (old ++ (number, standing) ∷ []) new is)
+          subst (All IsEntered) (same_Some (old ++ (number, standing) ∷ []) new is)
           (All-append IsEntered old ((number, standing) ∷ []) all (All-cons IsEntered (number, standing) [] in_form (All-nil IsEntered)))
     ] after
 entered_next old new (Dropped number) in_form all after =
     elim (stands number old) as (λ b. cond b (Some (dropped number old)) None ≡ Some new → All IsEntered new) [
       | true ↦ λ is.
-          subst (All IsEntered) (one_of (dropped number old) new is)
+          subst (All IsEntered) (same_Some (dropped number old) new is)
           (All-filter (λ entry. not (is_of number entry)) IsEntered old all)
       | false ↦ λ none. cc
     ] after
 
 entered_from : (old new : Entries) (said : List Catalogued) → All IsCatalogued said → All IsEntered old → entries_from old said ≡ Some new → All IsEntered new
-entered_from old new [] in_form all folds = subst (All IsEntered) (one_of old new folds) all
+entered_from old new [] in_form all folds = subst (All IsEntered) (same_Some old new folds) all
 entered_from old new (first ∷ said) in_form all folds =
     let on = reached (entries_after old first) said new folds in
     entered_from on.0 new said (All-tail IsCatalogued first said in_form)

@@ -1,18 +1,16 @@
 -- What an opening's answer tells of the payloads.
 use Rattle.std.proofs.Common.{◌≡◌, ◌≢◌, ℕ, List, [], ◌∷◌, Option, Some, None, IfSome, IfNone, slice_get, sym, ap, ◌∙◌, subst}
+use Rattle.std.proofs.lemmas.Option.{same_Some}
 use Rattle.pb_payloads.specs.Catalogue.{Entries, SaysCatalogue, with_id}
 use Rattle.pb_payloads.specs.Catalogued.{Catalogued, IsCatalogued, catalogued_spelling}
 use Rattle.pb_payloads.specs.Catalogued.Catalogued.{Id}
+use Rattle.pb_payloads.specs.Left.{ChangesTo}
+use Rattle.pb_payloads.proofs.CatalogueFolds.{behind_id, no_payloads}
 use Rattle.pb_payloads.proofs.CataloguedLaws.{one_catalogued}
 use Rattle.pb_catalog.specs.Found.{IsDamaged, IsOfAnother}
-use Rattle.pb_catalog.specs.Left.{ChangesTo}
-use Rattle.pb_catalog.proofs.Folds.{behind_id, no_payloads}
 
 id_is : (m n : ℕ) → Id m ≡ Id n → m ≡ n
 id_is m n same = cc
-
-one_payload : (payload other : List ℕ) → Some payload ≡ Some other → payload ≡ other
-one_payload payload other same = cc
 
 no_first : (payload : List ℕ) → slice_get {X = List ℕ} [] 0 ≡ Some payload → ⊥
 no_first payload same = cc
@@ -25,7 +23,7 @@ pub not_anothers : (id other : ℕ) (payloads : List (List ℕ)) (entries : Entr
 not_anothers id other [] entries says is = no_payloads id entries says
 not_anothers id other (payload ∷ rest) entries says is =
     let behind = behind_id id payload rest entries says in
-    is.apart (one_id payload other id is.in_form behind.in_form (one_payload payload (catalogued_spelling (Id other)) is.first) behind.spelled)
+    is.apart (one_id payload other id is.in_form behind.in_form (same_Some payload (catalogued_spelling (Id other)) is.first) behind.spelled)
 
 pub damaged_empty : (id : ℕ) → IsDamaged id []
 damaged_empty id = record { own = no_payloads id; another = λ other is. no_first (catalogued_spelling (Id other)) is.first }
@@ -33,14 +31,14 @@ damaged_empty id = record { own = no_payloads id; another = λ other is. no_firs
 pub damaged_first : (id : ℕ) (payload : List ℕ) (rest : List (List ℕ)) → ((n : ℕ) → IsCatalogued (Id n) → payload ≡ catalogued_spelling (Id n) → ⊥) → IsDamaged id (payload ∷ rest)
 damaged_first id payload rest none = record {
   own = λ entries says. let behind = behind_id id payload rest entries says in none id behind.in_form behind.spelled;
-  another = λ other is. none other is.in_form (one_payload payload (catalogued_spelling (Id other)) is.first);
+  another = λ other is. none other is.in_form (same_Some payload (catalogued_spelling (Id other)) is.first);
 }
 
 pub damaged_behind : (id : ℕ) (payload : List ℕ) (rest : List (List ℕ)) → IsCatalogued (Id id) → payload ≡ catalogued_spelling (Id id)
     → ((entries : Entries) → ChangesTo [] rest entries → ⊥) → IsDamaged id (payload ∷ rest)
 damaged_behind id payload rest in_form spelled none = record {
   own = λ entries says. none entries (behind_id id payload rest entries says).on;
-  another = λ other is. is.apart (one_id payload other id is.in_form in_form (one_payload payload (catalogued_spelling (Id other)) is.first) spelled);
+  another = λ other is. is.apart (one_id payload other id is.in_form in_form (same_Some payload (catalogued_spelling (Id other)) is.first) spelled);
 }
 
 pub of_another : (id other : ℕ) (payload : List ℕ) (rest : List (List ℕ)) → IsCatalogued (Id other) → payload ≡ catalogued_spelling (Id other) → other ≢ id → IsOfAnother id other (payload ∷ rest)

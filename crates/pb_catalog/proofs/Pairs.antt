@@ -5,7 +5,7 @@ use Rattle.std.specs.List.{All, find, IsDistinct, AllByRecursion}
 use Rattle.std.specs.Map.{keys_of, lookup, remove_entry}
 use Rattle.std.proofs.lemmas.Bool.{eqb-true, eqb-false}
 use Rattle.std.proofs.lemmas.List.{map-append}
-use Rattle.std.proofs.lemmas.Option.{slice_get_within, slice_get-get_or}
+use Rattle.std.proofs.lemmas.Option.{same_Some, slice_get_within, slice_get-get_or}
 use Rattle.std.proofs.lemmas.List.Elements.{All-head, All-tail}
 use Rattle.pb_payloads.specs.Catalogue.{Entries, dropped, is_of, stands}
 use Rattle.pb_payloads.specs.Catalogued.{Standing}
@@ -109,10 +109,7 @@ found_in_form P number entries found is all =
     some_standing (λ standing. P (number, standing)) found
     (subst (λ (o : Option Standing). IfSome o (λ standing. P (number, standing))) (sym is) (found_number P number entries all))
 
-one_item : {X : Type 0} (x y : X) → Some x ≡ Some y → x ≡ y
-one_item x y same = cc
-
 pub at_in_form : {X : Type 0} (P : X → Type 0) (xs : List X) (place : ℕ) (x : X) → slice_get xs place ≡ Some x → All P xs → P x
 at_in_form P xs place x is all =
     let within = slice_get_within xs place x is in
-    subst P (one_item (get_or xs place x) x (sym (slice_get-get_or xs place x within) ∙ is)) (all place x within)
+    subst P (same_Some (get_or xs place x) x (sym (slice_get-get_or xs place x within) ∙ is)) (all place x within)

@@ -1,7 +1,7 @@
 -- Facts about the value of an answer.
 use Rattle.pb_catalog.specs.declared.error.CatalogError.{CatalogError}
 use Rattle.pb_catalog.specs.declared.error.CatalogError.TheVariants.{WrongStore}
-use Rattle.std.proofs.Common.{◌≡◌, ℕ, Option, Some, None, IfSome, IfNone, Result, Ok, Err, OnOk, IsErr, subst}
+use Rattle.std.proofs.Common.{◌≡◌, ℕ, Result, Ok, Err, OnOk, IsErr, subst}
 
 pub ok_has : {T E : Type 0} (r : Result T E) (x : T) (P : Type 0) → r ≡ Ok x → OnOk r P → P
 ok_has r x P is h = subst (λ (r : Result _ _). OnOk r P) is h
@@ -9,12 +9,6 @@ ok_has r x P is h = subst (λ (r : Result _ _). OnOk r P) is h
 pub on_ok : {T E : Type 0} (r : Result T E) (P : Type 0) → P → OnOk r P
 on_ok (Ok x) P holds = holds
 on_ok (Err e) P holds = tt
-
-pub some_has : {T : Type 0} (o : Option T) (P : T → Type 0) (x : T) → o ≡ Some x → IfSome o P → P x
-some_has o P x is h = subst (λ (p : Option _). IfSome p P) is h
-
-pub none_has : {T : Type 0} (o : Option T) (P : Type 0) → o ≡ None → IfNone o P → P
-none_has o P is h = subst (λ (p : Option _). IfNone p P) is h
 
 -- an answer tells its error
 pub same_wrong : {T : Type 0} (error : CatalogError) (other : ℕ) → ◌≡◌ {A = Result T CatalogError} (Err error) (Err (WrongStore other)) → error ≡ WrongStore other

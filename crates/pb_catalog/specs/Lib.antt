@@ -3,4 +3,3 @@ pub mod Calls
 pub mod Entered
 pub mod Faults
 pub mod Found
-pub mod Left

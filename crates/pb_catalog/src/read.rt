@@ -2,7 +2,7 @@ ghost use Rattle.std.specs.Prelude.{◌≡◌, ◌++◌, ◌∷◌, ℕ, [], tru
 ghost use Rattle.pb_catalog.specs.Catalog.{IsEntered};
 ghost use Rattle.pb_catalog.specs.Entered.{entries_of};
 ghost use Rattle.pb_catalog.specs.Found.{IsDamaged, IsOfAnother};
-ghost use Rattle.pb_catalog.specs.Left.{ChangesTo, IsChange};
+ghost use Rattle.pb_payloads.specs.Left.{ChangesTo, IsChange};
 ghost use Rattle.pb_payloads.specs.Catalogue.{Entries, SaysCatalogue, entries_after, with_id};
 ghost use Rattle.pb_payloads.specs.Catalogued.{Catalogued as said, IsCatalogued, catalogued_spelling};
 ghost use Rattle.pb_payloads.specs.Payloads.{catalogued_of, standing_of};

@@ -7,6 +7,7 @@ use Rattle.pb_devices.specs.Contents.{Contents, MayLeave}
 use Rattle.pb_gate_log.specs.Calls.{Makes}
 use Rattle.pb_gate_log.specs.EachLog.{LogPlace, EachLog}
 use Rattle.pb_gate_log.specs.Payloads.{HasList, payloads_in}
+use Rattle.pb_gate_log.proofs.FilePayloads.{has_payloads}
 use Rattle.pb_gate_log.proofs.LogStates.{each_has}
 use Rattle.std.specs.FinMap.{get}
 use Rattle.std.specs.Prelude.{◌⊎◌}
@@ -25,34 +26,30 @@ pub record IsAppending (told : Bool) (payloads : List (List ℕ)) (done : ℕ) (
   pub within : done ≤ length payloads
   pub each : told ≡ true → EachLog log (take done payloads) disk
 
-has_in : (list : List (List ℕ)) (image : Option (List ℕ)) → HasList list image → payloads_in image ≡ list
-has_in list None has = absurd has
-has_in list (Some bytes) has = has
-
 -- where the creation fails
 pub none_made : (payloads : List (List ℕ)) (name : List ℕ) (old new : Contents) → NeverStood old name → Makes name old new
     → (image : Option (List ℕ)) → MayLeave new name image → HasFirst payloads 0 image
 none_made payloads name old new never makes image left =
     elim (makes.crash image left) [
       | inl before ↦ inl (ap payloads_in (never image before))
-      | inr made ↦ inl (has_in [] image made)
+      | inr made ↦ inl (has_payloads [] image made)
     ]
 
 -- where an append fails
 pub one_failed : (payloads : List (List ℕ)) (done : ℕ) (payload item : List ℕ) (image : Option (List ℕ))
     → done < length payloads → payload ≡ item → item ≡ get_or payloads done item
     → IsBeforeOrAfter (λ list. HasList list image) (take done payloads) (take done payloads ++ payload ∷ []) → HasFirst payloads done image
-one_failed payloads done payload item image within same is (inl has) = inl (has_in (take done payloads) image has)
+one_failed payloads done payload item image within same is (inl has) = inl (has_payloads (take done payloads) image has)
 one_failed payloads done payload item image within same is (inr has) =
     inr
-    (has_in (take done payloads ++ payload ∷ []) image has
+    (has_payloads (take done payloads ++ payload ∷ []) image has
     ∙ ap (λ (p : List ℕ). take done payloads ++ p ∷ []) (same ∙ is)
     ∙ sym (take_more payloads done item within))
 
 -- where all were appended
 pub all_done : (payloads : List (List ℕ)) (done : ℕ) (log : LogPlace) (disk : Contents) → EachLog log (take done payloads) disk
     → (image : Option (List ℕ)) → MayLeave disk log.file image → HasFirst payloads done image
-all_done payloads done log disk each image left = inl (has_in (take done payloads) image (each_has log (take done payloads) disk each image left))
+all_done payloads done log disk each image left = inl (has_payloads (take done payloads) image (each_has log (take done payloads) disk each image left))
 
 -- ---- a new disk
 

@@ -1,7 +1,7 @@
 -- A folder stands for one count and one map.
 use Rattle.std.proofs.Common.{◌≡◌, ℕ, List, [], ◌∷◌, Option, Some, None, map, reverse, refl, sym, ap, ◌∙◌, subst, inl, inr}
 use Rattle.std.specs.Prelude.{IsSomeAnd}
-use Rattle.std.specs.List.{All, last_or}
+use Rattle.std.specs.List.{All}
 use Rattle.std.specs.FinMap.{empty}
 use Rattle.pb_devices.specs.Contents.{Folder}
 use Rattle.pb_devices.specs.Objects.{Objects}
@@ -12,13 +12,14 @@ use Rattle.pb_rows.specs.Layer.{KeyLayer}
 use Rattle.pb_rows.specs.Applied.{applied_in_turn}
 use Rattle.pb_rows.specs.Changing.{Changing, after}
 use Rattle.pb_rows.specs.Viewed.{viewed}
-use Rattle.pb_payloads.specs.Current.{SaysCurrent, pointer_spelling}
+use Rattle.pb_payloads.specs.Current.{SaysCurrent}
 use Rattle.pb_payloads.specs.Logged.{Logged}
 use Rattle.pb_payloads.specs.Logged.Logged.{Set, Del, DelRange, Ingest}
 use Rattle.pb_payloads.specs.Log.{LogEntry, waiting_in, waiting_of}
 use Rattle.pb_payloads.specs.Places.{bytes_of}
+use Rattle.pb_payloads.proofs.CurrentLaws.{no_pointer}
 use Rattle.pb_gate_log.specs.NewFolder.{IsNew}
-use Rattle.pb_gate_log.specs.Payloads.{payloads, payloads_in}
+use Rattle.pb_gate_log.proofs.FilePayloads.{such_in}
 use Rattle.pb_table.proofs.TableLemmas.{one_layer}
 use Rattle.pb_version.specs.Version.{TableView, VersionView, all_tables}
 use Rattle.pb_version.specs.Meaning.{map_of, layer_of_table}
@@ -97,13 +98,10 @@ module _ (layers others : ℕ → KeyLayer) where
 -- ---- the folder
 
 pub new_says_nothing : (folder : Folder) (id : ℕ) (said : Said) → IsNew folder → Says folder id said → ⊥
-new_says_nothing folder id said new says = nothing (folder current_name) said new says.current
-  where
-    nothing : (file : Option (List ℕ)) (said : Said) → payloads_in file ≡ [] → IsSomeAnd file (λ bytes. SaysCurrent (payloads bytes) said.pointer) → ⊥
-    nothing None said none says = says
-    nothing (Some bytes) said none says =
-        let last : last_or None [] ≡ Some (pointer_spelling said.pointer) = ap (λ (list : List (List ℕ)). last_or None list) (sym none) ∙ says.last in
-        absurd (cc)
+new_says_nothing folder id said new says =
+    no_pointer said.pointer
+    (subst (λ (list : List (List ℕ)). SaysCurrent list said.pointer) new
+    (such_in (folder current_name) (λ list. SaysCurrent list said.pointer) says.current))
 
 means_once : (folder : Folder) (objects : Objects) (id other n k : ℕ) (m l : Map) → Means folder objects id n m → Means folder objects other k l → (n ≡ k) × (m ≡ l)
 means_once folder objects id other n k m l one two =

@@ -1,5 +1,5 @@
 -- A folder says one thing.
-use Rattle.std.proofs.Common.{◌≡◌, ℕ, List, Option, Some, None, sym, ap, subst}
+use Rattle.std.proofs.Common.{◌≡◌, ℕ, List, Option, Some, sym, ap, subst}
 use Rattle.std.specs.Prelude.{IsSomeAnd}
 use Rattle.pb_devices.specs.Contents.{Folder}
 use Rattle.pb_names.specs.Spelling.{current_name, file_name}
@@ -12,6 +12,7 @@ use Rattle.pb_payloads.proofs.CurrentLaws.{one_current}
 use Rattle.pb_payloads.proofs.CataloguedLaws.{one_catalogue}
 use Rattle.pb_payloads.proofs.LoggedLaws.{one_log}
 use Rattle.pb_gate_log.specs.Payloads.{HasPayloads, payloads}
+use Rattle.pb_gate_log.proofs.FilePayloads.{both_read}
 use Rattle.pb_version.specs.Version.{VersionView}
 use Rattle.pb_version.specs.SaysVersion.{SaysVersion}
 use Rattle.pb_folder.specs.Said.{Said, Says}
@@ -22,13 +23,6 @@ pub has_payloads : (folder : Folder) (name bytes : List ℕ) (list : List (List 
     → folder name ≡ Some bytes → payloads bytes ≡ list → AreSuch list → HasPayloads folder name AreSuch
 has_payloads folder name bytes list AreSuch there are such =
     subst (λ (file : Option (List ℕ)). IsSomeAnd file (λ bytes. AreSuch (payloads bytes))) (sym there) (subst AreSuch (sym are) such)
-
--- two facts on the payloads of one file
-pub both_read : {Fact : Type 0} (file : Option (List ℕ)) (One Other : List (List ℕ) → Type 0)
-    → IsSomeAnd file (λ bytes. One (payloads bytes)) → IsSomeAnd file (λ bytes. Other (payloads bytes))
-    → ((list : List (List ℕ)) → One list → Other list → Fact) → Fact
-both_read None One Other one other both = absurd one
-both_read (Some bytes) One Other one other both = both (payloads bytes) one other
 
 module _ (folder : Folder) (id other : ℕ) (said again : Said) (says : Says folder id said) (says_again : Says folder other again) where
   same_pointer : said.pointer ≡ again.pointer

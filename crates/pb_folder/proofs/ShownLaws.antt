@@ -5,6 +5,7 @@ use Rattle.std.specs.FinMap.{contains_key, empty, get}
 use Rattle.std.specs.List.{All, cons_option, filter_map}
 use Rattle.std.specs.Option.{option_map, option_and_then}
 use Rattle.std.proofs.lemmas.Bool.{both_ways, cases_Bool, cond-true, cond-false, and_parts, false_from_ne_true}
+use Rattle.std.proofs.lemmas.Option.{same_Some}
 use Rattle.std.proofs.lemmas.List.Elements.{All-head, All-tail, All-nil, All-cons}
 use Rattle.pb_devices.specs.Contents.{Folder}
 use Rattle.pb_devices.specs.Objects.{Objects}
@@ -40,9 +41,6 @@ use Rattle.pb_folder.proofs.Lists.{All-both}
 use Rattle.pb_folder.proofs.SaidLaws.{one_said}
 use Rattle.pb_folder.proofs.OneMeaning.{new_says_nothing}
 use Rattle.pb_folder.proofs.AlikeLaws.{stands_beside}
-
-same_some : {A : Type 0} (x y : A) → Some x ≡ Some y → x ≡ y
-same_some x y p = cc
 
 -- ---- words
 
@@ -143,7 +141,7 @@ new_stands folder objects store new = record { count = 0; pairs = empty; stands 
 
 settled_entry : (said : Said) (n : ℕ) (found : Option Identity) (e : Entry) → option_map (closed_entry said n) found ≡ Some e → IsSettled e
 settled_entry said n None e p = absurd (cc)
-settled_entry said n (Some o) e p = subst IsSettled (same_some (closed_entry said n o) e p) (settled (is_named said n))
+settled_entry said n (Some o) e p = subst IsSettled (same_Some (closed_entry said n o) e p) (settled (is_named said n))
   where
     settled : (b : Bool) → IsSettled (record { object = o; lender = None; stage = if b then Held else Loose })
     settled true = record { stage = refl; no_lender = refl }
@@ -186,7 +184,7 @@ some_if (Some x) P is = refl
 stored_there : (objects : Objects) (name : Option (List ℕ)) (file : Option (List ℕ)) (P : List ℕ → Type 0)
     → IsSomeAnd (in_place name file (option_and_then (get objects) name)) P → (x : List ℕ) → name ≡ Some x → IsSome (get objects x)
 stored_there objects None file P is x p = absurd (cc)
-stored_there objects (Some y) None P is x p = some_if (get objects x) P (subst (λ z. IsSomeAnd (get objects z) P) (same_some y x p) is)
+stored_there objects (Some y) None P is x p = some_if (get objects x) P (subst (λ z. IsSomeAnd (get objects z) P) (same_Some y x p) is)
 stored_there objects (Some y) (Some bytes) P is x p = absurd is
 
 module _ (objects : Objects) (folder : Folder) (entries : Entries) (layers : ℕ → KeyLayer) where

@@ -1,6 +1,6 @@
 -- Where a file is at fault, the folder stands for nothing.
-use Rattle.std.proofs.Common.{◌≡◌, ℕ, ◌<◌, List, [], Option, Some, None, map, sym, ap, ◌∙◌, subst, arith, inl, inr}
-use Rattle.std.specs.List.{All, last_or}
+use Rattle.std.proofs.Common.{◌≡◌, ℕ, ◌<◌, List, [], Option, None, map, sym, ap, ◌∙◌, subst, arith, inl, inr}
+use Rattle.std.specs.List.{All}
 use Rattle.std.specs.Prelude.{IsSomeAnd}
 use Rattle.pb_devices.specs.Contents.{Folder}
 use Rattle.pb_devices.specs.Objects.{Objects}
@@ -17,11 +17,13 @@ use Rattle.pb_folder_reader.specs.Tables.{HasTable}
 use Rattle.pb_folder_reader.proofs.Lists.{All_at}
 use Rattle.pb_folder_reader.proofs.Reading.{catalogue_says, entries_are, log_says, manifest_says, one_named, one_read, version_is}
 use Rattle.pb_gate_log.specs.Payloads.{payloads, payloads_in}
+use Rattle.pb_gate_log.proofs.FilePayloads.{such_in}
 use Rattle.pb_keys.specs.Map.{Map}
 use Rattle.pb_names.specs.Spelling.{current_name}
 use Rattle.pb_payloads.specs.Catalogue.{Entries}
-use Rattle.pb_payloads.specs.Current.{Pointer, SaysCurrent, pointer_spelling}
+use Rattle.pb_payloads.specs.Current.{Pointer, SaysCurrent}
 use Rattle.pb_payloads.specs.Places.{bytes_of}
+use Rattle.pb_payloads.proofs.CurrentLaws.{no_pointer}
 use Rattle.pb_rows.specs.Layer.{KeyLayer}
 use Rattle.pb_version.specs.Stored.{backing_of}
 use Rattle.pb_version.specs.Version.{TableView, VersionView, all_tables}
@@ -84,10 +86,9 @@ module _ (folder : Folder) (objects : Objects) (entries : Entries) (layers : ℕ
 -- ---- the folder
 
 new_none : (file : Option (List ℕ)) (pointer : Pointer) → payloads_in file ≡ [] → IsSomeAnd file (λ bytes. SaysCurrent (payloads bytes) pointer) → ⊥
-new_none None pointer new says = says
-new_none (Some bytes) pointer new says =
-    let last : last_or None [] ≡ Some (pointer_spelling pointer) = ap (λ (list : List (List ℕ)). last_or None list) (sym new) ∙ says.last in
-    absurd (cc)
+new_none file pointer new says =
+    no_pointer pointer
+    (subst (λ (list : List (List ℕ)). SaysCurrent list pointer) new (such_in file (λ list. SaysCurrent list pointer) says))
 
 pub at_fault_none : (folder : Folder) (objects : Objects) (id : ℕ) (file : List ℕ) → IsAtFault folder objects id file → (n : ℕ) (m : Map)
     → StandsFor folder objects id n m → ⊥

@@ -1,15 +1,10 @@
 -- What the payloads of a log that are left say, behind the entries that were read.
-use Rattle.std.proofs.Common.{◌≡◌, ℕ, List, [], ◌∷◌, ◌++◌, map, sym, ◌∙◌, subst, append_assoc}
+use Rattle.std.proofs.Common.{ℕ, List, [], ◌∷◌, ◌++◌, map, sym, ◌∙◌, subst, append_assoc}
 use Rattle.std.proofs.lemmas.List.Elements.{All-cons, All-head, All-tail}
+use Rattle.pb_keys.proofs.Lists.{head_of, tail_of}
 use Rattle.pb_payloads.specs.Log.{LogEntry, IsEntry, entry_spelling, SaysLog}
 use Rattle.pb_payloads.proofs.LoggedLaws.{one_entry}
 use Rattle.pb_folder_reader.specs.Left.{IsNext}
-
-head_of : (x y : List ℕ) (xs ys : List (List ℕ)) → x ∷ xs ≡ y ∷ ys → x ≡ y
-head_of x y xs ys same = cc
-
-tail_of : (x y : List ℕ) (xs ys : List (List ℕ)) → x ∷ xs ≡ y ∷ ys → xs ≡ ys
-tail_of x y xs ys same = cc
 
 says_behind : (last : ℕ) (payload : List ℕ) (rest : List (List ℕ)) (entry : LogEntry) (later : List LogEntry) → IsNext last payload entry
     → SaysLog entry.count rest later → SaysLog last (payload ∷ rest) (entry ∷ later)

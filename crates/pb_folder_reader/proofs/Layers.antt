@@ -2,6 +2,7 @@
 use Rattle.std.proofs.Common.{◌≡◌, ℕ, Bool, true, false, cond, List, [], ◌∷◌, map, Option, Some, None, refl, sym, ap, ◌∙◌, subst, arith}
 use Rattle.std.specs.Prelude.{IsSomeAnd, ◌==◌, if◌then◌else◌}
 use Rattle.std.specs.List.{All}
+use Rattle.std.proofs.lemmas.Bool.{eqb-true}
 use Rattle.std.proofs.lemmas.Bool.Decides.{nat_tests}
 use Rattle.std.proofs.lemmas.List.Elements.{All-nil, All-cons, All-head, All-tail, All-append}
 use Rattle.pb_edit.specs.Edit.{CreatedItem}
@@ -13,7 +14,6 @@ use Rattle.pb_version.specs.Version.{TableView, VersionView, all_tables}
 use Rattle.pb_version.specs.Meaning.{layer_of_table}
 use Rattle.pb_version.specs.Stored.{backing_of, stored_in}
 use Rattle.pb_folder.proofs.Lists as part
-use Rattle.pb_folder_reader.proofs.Lists.{same_number}
 use Rattle.pb_folder_reader.specs.Tables.{AllShow, HasSome, HasTable, IsBehind, Places, Shows, ShowsAll}
 
 -- ---- one number
@@ -45,7 +45,7 @@ module _ (places : Places) where
   other_has item other layer layers is has =
       elim (other.number == item.number) as (λ b. (other.number == item.number) ≡ b → IsBehind places other.number other.size (cond b layer (layers other.number))) [
         | true ↦ λ same.
-            let there = subst (λ n. IsBehind places n item.size layer) (sym (same_number other.number item.number same)) is in
+            let there = subst (λ n. IsBehind places n item.size layer) (sym (eqb-true other.number item.number same)) is in
             subst (IsBehind places other.number other.size) (one_behind places other.number other.size item.size (layers other.number) layer has there) has
         | false ↦ λ same. has
       ] refl

@@ -2,7 +2,6 @@ pub mod Results
 pub mod Lists
 pub mod Objects
 pub mod Entries
-pub mod CatalogueFolds
 pub mod Reading
 pub mod Views
 pub mod Maps

@@ -1,16 +1,11 @@
 -- Lists that are read item by item.
-use Rattle.std.proofs.Common.{◌≡◌, ℕ, ◌+◌, ◌<◌, ◌≤◌, List, [], ◌∷◌, ◌++◌, map, length, get_or, take, drop, arith, Bool, false, true, refl, sym, ap, ◌∙◌, subst}
+use Rattle.std.proofs.Common.{◌≡◌, ℕ, ◌+◌, ◌<◌, ◌≤◌, List, [], ◌∷◌, ◌++◌, map, length, get_or, take, arith, Bool, false, refl, sym, ap, ◌∙◌, subst}
 use Rattle.std.proofs.lemmas.Grind.{take_at_read}
-use Rattle.std.proofs.lemmas.List.{drop_more, map-append}
+use Rattle.std.proofs.lemmas.List.{map-append}
 use Rattle.std.proofs.lemmas.List.Elements.{All-push}
-use Rattle.std.proofs.lemmas.Bool.{false≢true}
-use Rattle.std.proofs.lemmas.Bool.Decides.{nat_tests}
+use Rattle.std.proofs.lemmas.Bool.{eqb-true, false≢true}
 use Rattle.std.specs.List.{All, flat_map}
 use Rattle.std.specs.Prelude.{◌==◌, ◌↔◌, IsTrue}
-
--- the item that is read, and what it was made, stand first among those that are left
-pub item_first : {X : Type 0} (xs : List X) (i : ℕ) (x read : X) → i < length xs → x ≡ get_or xs i x → read ≡ x → drop i xs ≡ read ∷ drop (i + 1) xs
-item_first xs i x read within is same = drop_more xs i x within ∙ ap (λ y. y ∷ drop (i + 1) xs) (sym (same ∙ is))
 
 pub flat_map-map : {X Y Z : Type 0} (f : Y → List Z) (g : X → Y) (xs : List X) → flat_map f (map g xs) ≡ flat_map (λ x. f (g x)) xs
 flat_map-map f g [] = refl
@@ -32,22 +27,15 @@ All_next P xs i x within is so_far has =
 pub All_at : {X : Type 0} (P : X → Type 0) (xs : List X) (i : ℕ) (x : X) → i < length xs → x ≡ get_or xs i x → All P xs → P x
 All_at P xs i x within is all = subst P (sym is) (all i x within)
 
--- a list that was found not to be empty
-pub filled : {X : Type 0} (xs : List X) (test : Bool) → test ≡ (length xs == 0) → test ≡ false → xs ≡ [] → ⊥
-filled xs test is not none = false≢true (sym not ∙ is ∙ ap (λ ys. length ys == 0) none)
-
 pub only_one : {X : Type 0} (xs : List X) (x : X) → 1 ≤ length xs → length xs < 2 → x ≡ get_or xs 0 x → xs ≡ x ∷ []
 only_one [] x some few is = absurd (omega (arith, some))
 only_one (y ∷ []) x some few is = ap (λ z. z ∷ []) (sym is)
 only_one (y ∷ z ∷ ys) x some few is = absurd (omega (arith, few))
 
--- the same of a vector, which knows its length
+-- a vector that was found not to be empty
 pub filled_vec : {X : Type 0} (xs seen : List X) (len : ℕ) → seen ≡ xs → length seen ≡ len → false ≡ (len == 0) → xs ≡ [] → ⊥
 filled_vec xs seen len same lens not none = false≢true (not ∙ ap (λ n. n == 0) (sym lens ∙ ap length (same ∙ none)))
 
-pub same_number : (m n : ℕ) → (m == n) ≡ true → m ≡ n
-same_number m n is = grind (arith, nat_tests)
-
 pub empty_iff : {X : Type 0} (xs : List X) (test : Bool) → test ≡ (length xs == 0) → IsTrue test ↔ (xs ≡ [])
 empty_iff [] test is = (λ _. refl, λ _. is)
-empty_iff (x ∷ xs) test is = (λ yes. absurd (omega (arith, same_number (length (x ∷ xs)) 0 (sym is ∙ yes))), λ none. cc)
+empty_iff (x ∷ xs) test is = (λ yes. absurd (omega (arith, eqb-true (length (x ∷ xs)) 0 (sym is ∙ yes))), λ none. cc)

@@ -3,10 +3,10 @@ use Rattle.std.proofs.Common.{◌≡◌, ℕ, List, [], Option, Some, None, sym,
 use Rattle.std.specs.Prelude.{IsSomeAnd, option_map}
 use Rattle.pb_devices.specs.Contents.{Folder}
 use Rattle.pb_folder.specs.Said.{Said, Says}
-use Rattle.pb_folder.proofs.SaidLaws.{both_read}
 use Rattle.pb_folder_reader.specs.AtFault.{SaysEntries, SaysManifest}
 use Rattle.pb_folder_reader.specs.Said.{IsRead}
 use Rattle.pb_gate_log.specs.Payloads.{HasPayloads, payloads, payloads_in}
+use Rattle.pb_gate_log.proofs.FilePayloads.{both_read}
 use Rattle.pb_names.specs.Spelling.{current_name, file_name}
 use Rattle.pb_names.specs.declared.file_kind.FileKind.TheVariants.{Manifest, Catalogue, Log}
 use Rattle.pb_payloads.specs.Current.{Pointer, SaysCurrent}

@@ -3,7 +3,7 @@ use Rattle.std.proofs.Common.{◌≡◌, ℕ, zero, suc, ◌<◌, Bool, true, fa
 use Rattle.std.specs.Prelude.{◌||◌, ◌&&◌, not, nat_eq, filter}
 use Rattle.std.specs.Cmp.Lexicographic.{pointwise, bytes_decides}
 use Rattle.std.specs.List.{All, AllPairs, list_any}
-use Rattle.std.proofs.lemmas.Bool.{false≢true}
+use Rattle.std.proofs.lemmas.Bool.{and_parts, false≢true, not-true, or_parts}
 use Rattle.pb_keys.specs.Key.{IsKey}
 use Rattle.pb_keys.specs.Span.{KeySpan, IsSpan, holds_key}
 use Rattle.pb_keys.specs.View.{KeyView}
@@ -21,22 +21,10 @@ viewed_is view layer shown dels rows mapped_dels mapped_rows cut held =
 
 -- ---- one element that passes a test
 
-neither : (a b : Bool) → (a || b) ≡ false → (a ≡ false) × (b ≡ false)
-neither true b none = absurd (false≢true (sym none))
-neither false b none = (refl, none)
-
-both : (a b : Bool) → (a && b) ≡ true → (a ≡ true) × (b ≡ true)
-both true b all = (refl, all)
-both false b all = absurd (false≢true all)
-
-turned : (b : Bool) → not b ≡ true → b ≡ false
-turned true is = absurd (false≢true is)
-turned false is = refl
-
 none_at : {X : Type 0} (test : X → Bool) (xs : List X) (j : ℕ) (d : X) → list_any test xs ≡ false → j < length xs → test (get_or xs j d) ≡ false
 none_at test [] j d none within = absurd (omega arith)
-none_at test (x ∷ xs) zero d none within = (neither (test x) (list_any test xs) none).0
-none_at test (x ∷ xs) (suc j) d none within = none_at test xs j d (neither (test x) (list_any test xs) none).1 (omega arith)
+none_at test (x ∷ xs) zero d none within = (or_parts (test x) (list_any test xs) none).0
+none_at test (x ∷ xs) (suc j) d none within = none_at test xs j d (or_parts (test x) (list_any test xs) none).1 (omega arith)
 
 none_of : {X : Type 0} (test : X → Bool) (xs : List X) → ((j : ℕ) (d : X) → j < length xs → test (get_or xs j d) ≡ true → ⊥) → list_any test xs ≡ false
 none_of test [] none = refl
@@ -60,12 +48,12 @@ module _ (f : KeyRow → KeyRow) where
   own_apart [] own i j d before within same = absurd (omega (arith, before, within))
   own_apart (row ∷ rows) own zero zero d before within same = absurd (omega (arith, before))
   own_apart (row ∷ rows) own zero (suc j) d before within same =
-      let first = turned _ (both _ _ own).0 in
+      let first = not-true _ (and_parts _ _ own).0 in
       let none = none_at (λ other. pointwise nat_eq (f other).key (f row).key) rows j d (sym (list_any-map (λ other. pointwise nat_eq other.key (f row).key) f rows) ∙ first) (omega (arith, within)) in
       false≢true (sym none ∙ (bytes_decides (f (get_or rows j d)).key (f row).key).1 (sym same))
   own_apart (row ∷ rows) own (suc i) zero d before within same = absurd (omega (arith, before))
   own_apart (row ∷ rows) own (suc i) (suc j) d before within same =
-      own_apart rows (both _ _ own).1 i j d (omega (arith, before)) (omega (arith, within)) same
+      own_apart rows (and_parts _ _ own).1 i j d (omega (arith, before)) (omega (arith, within)) same
 
   apart_own : (rows : List KeyRow) → OwnKeys f rows → are_own_keys (map f rows) ≡ true
   apart_own [] apart = refl

@@ -1,7 +1,5 @@
--- What the payloads that are left say, behind those that were read.
-use Rattle.std.specs.Prelude.{◌≡◌, ℕ, ◌<◌, List, Some, All, map}
-use Rattle.pb_payloads.specs.Catalogue.{Entries, entries_after, entries_from}
-use Rattle.pb_payloads.specs.Catalogued.{Catalogued, IsCatalogued, catalogued_spelling}
+-- What the payloads of a log that are left say, behind those that were read.
+use Rattle.std.specs.Prelude.{◌≡◌, ℕ, ◌<◌, List}
 use Rattle.pb_payloads.specs.Log.{LogEntry, IsEntry, entry_spelling}
 
 -- the payload is this entry, whose count is above the last one
@@ -9,17 +7,3 @@ pub record IsNext (last : ℕ) (payload : List ℕ) (entry : LogEntry) : Type 0 
   pub in_form : IsEntry entry
   pub spelled : payload ≡ entry_spelling entry
   pub rise : last < entry.count
-
--- the payload of a catalogue is allowed where the old entries stand, and makes the new ones of them
-pub record IsChange (payload : List ℕ) (old new : Entries) : Type 0 where
-  pub catalogued : Catalogued
-  pub in_form : IsCatalogued catalogued
-  pub spelled : payload ≡ catalogued_spelling catalogued
-  pub after : entries_after old catalogued ≡ Some new
-
--- all of these are, one after the other
-pub record ChangesTo (old : Entries) (payloads : List (List ℕ)) (new : Entries) : Type 0 where
-  pub said : List Catalogued
-  pub spelled : payloads ≡ map catalogued_spelling said
-  pub in_form : All IsCatalogued said
-  pub folds : entries_from old said ≡ Some new

@@ -1,5 +1,5 @@
 ghost use Rattle.std.specs.Prelude.{◌≡◌, [], true, false, None, Some, IfNone, IfOk, IfSome};
-ghost use Rattle.pb_folder_reader.specs.Left.{ChangesTo, IsChange};
+ghost use Rattle.pb_payloads.specs.Left.{ChangesTo, IsChange};
 ghost use Rattle.pb_payloads.specs.Catalogued.{Catalogued as said, IsCatalogued, catalogued_spelling};
 ghost use Rattle.pb_payloads.specs.Catalogued.Standing.{Shared};
 ghost use Rattle.pb_payloads.specs.Catalogue.{Entries, SaysCatalogue, entries_after, with_id};

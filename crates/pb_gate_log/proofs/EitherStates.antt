@@ -12,15 +12,7 @@ use Rattle.pb_devices.proofs.Kept.{kept_then, stays_kept}
 use Rattle.pb_gate_log.specs.Calls.{IsOpened, IsOpenedOrMade, Makes, Opens, OpensOrMakes}
 use Rattle.pb_gate_log.specs.EachLog.{LogPlace, EachLog}
 use Rattle.pb_gate_log.specs.Payloads.{HasList, payloads_in}
-
-has_payloads : (list : List (List ℕ)) (image : Option (List ℕ)) → HasList list image → payloads_in image ≡ list
-has_payloads list None has = absurd has
-has_payloads list (Some bytes) has = has
-
--- a file that is there has its own payloads
-has_own : (file : Option (List ℕ)) → IsSome file → HasList (payloads_in file) file
-has_own None there = cc
-has_own (Some bytes) there = refl
+use Rattle.pb_gate_log.proofs.FilePayloads.{has_own, has_payloads}
 
 -- what `len` tells
 pub length_some : (found : Option ℕ) (file : Option (List ℕ)) → is_some found ≡ true → IsLength found file → IsSome file

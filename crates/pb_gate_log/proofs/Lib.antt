@@ -1,5 +1,6 @@
 mod Examples
 pub mod PayloadLemmas
+pub mod FilePayloads
 pub mod TornLemmas
 pub mod PendingLemmas
 pub mod LogLemmas

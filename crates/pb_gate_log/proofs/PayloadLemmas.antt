@@ -1,6 +1,7 @@
 -- What bytes stand for.
-use Rattle.std.proofs.Common.{◌≡◌, ◌≢◌, ◌⊎◌, ℕ, zero, suc, ◌+◌, ◌<◌, ◌≤◌, Bool, true, false, cond, List, [], ◌∷◌, ◌++◌, length, take, drop, get_or, refl, sym, ap, ◌∙◌, inl, inr, arith, append_assoc, length-append, length-drop}
+use Rattle.std.proofs.Common.{◌≡◌, ◌≢◌, ℕ, zero, suc, ◌+◌, ◌<◌, ◌≤◌, true, false, cond, List, [], ◌∷◌, ◌++◌, length, take, drop, get_or, refl, sym, ap, ◌∙◌, inl, inr, arith, append_assoc, length-append, length-drop}
 use Rattle.std.specs.List.{All}
+use Rattle.std.proofs.lemmas.Bool.{cases_Bool}
 use Rattle.std.proofs.lemmas.Bool.Decides.{nat_tests}
 use Rattle.std.proofs.lemmas.List.{take_at, drop_at}
 use Rattle.pb_bytes.specs.BigEndian.{be32, number_of}
@@ -29,10 +30,6 @@ payloads_of_one : (more : ℕ) (bytes : List ℕ) → begins_entry bytes ≡ tru
 unfolding payloads_of
 payloads_of_one more bytes begins = ap (λ b. cond b (take (len_behind bytes) (drop 5 bytes) ∷ payloads_of more (drop (len_behind bytes + 5) bytes)) []) begins
 
-bool_cases : (b : Bool) → (b ≡ true) ⊎ (b ≡ false)
-bool_cases true = inl refl
-bool_cases false = inr refl
-
 -- more steps than bytes change nothing
 enough : (m n : ℕ) (bytes : List ℕ) → length bytes ≤ m → length bytes ≤ n → payloads_of m bytes ≡ payloads_of n bytes
 enough zero n bytes at_most also =
@@ -41,7 +38,7 @@ enough zero n bytes at_most also =
 enough (suc m) zero bytes at_most also =
     let none : begins_entry bytes ≡ false = begins_entry_short bytes (omega arith) in
     payloads_of_none (suc m) bytes none ∙ sym (payloads_of_none zero bytes none)
-enough (suc m) (suc n) bytes at_most also = elim (bool_cases (begins_entry bytes)) [
+enough (suc m) (suc n) bytes at_most also = elim (cases_Bool (begins_entry bytes)) [
   | inl begins ↦
       let fits = begins_entry_fits bytes begins in
       let rest = drop (len_behind bytes + 5) bytes in

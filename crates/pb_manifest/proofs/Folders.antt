@@ -4,7 +4,7 @@ use Rattle.pb_devices.specs.Contents.{Contents, Folder, MayLeave, IsImage, KeptA
 use Rattle.pb_edit.specs.Edit.{VersionEdit}
 use Rattle.pb_edit.specs.Grammar.{IsEdit, edit_spelling}
 use Rattle.pb_gate_log.specs.EachLog.{LogPlace, EachLog}
-use Rattle.pb_gate_log.specs.Payloads.{HasList, payloads, payloads_in}
+use Rattle.pb_gate_log.specs.Payloads.{HasList, payloads}
 use Rattle.pb_gate_log.proofs.LogStates.{each_has, each_kept, each_kept_at}
 use Rattle.pb_names.specs.Named.Named.{current, file}
 use Rattle.pb_names.specs.Spelling.{current_name}
@@ -37,10 +37,6 @@ apart_catalogue number low same =
     let fits : number < 2 ^ 64 = omega arith in
     no_catalogue number fits (names_are_apart current (file Catalogue number) tt fits same)
 
-pub has_payloads : (list : List (List ℕ)) (image : Option (List ℕ)) → HasList list image → payloads_in image ≡ list
-has_payloads list None has = absurd has
-has_payloads list (Some bytes) has = has
-
 -- what is said of its list is said of its payloads, and the other way
 pub has_such : (list : List (List ℕ)) (file : Option (List ℕ)) (AreSuch : List (List ℕ) → Type 0) → HasList list file → AreSuch list
     → IsSomeAnd file (λ bytes. AreSuch (payloads bytes))
@@ -51,11 +47,6 @@ pub such_has : (list : List (List ℕ)) (file : Option (List ℕ)) (AreSuch : Li
     → IsSomeAnd file (λ bytes. AreSuch (payloads bytes)) → AreSuch list
 such_has list None AreSuch has such = absurd has
 such_has list (Some bytes) AreSuch has such = subst AreSuch has such
-
-pub such_in : (file : Option (List ℕ)) (AreSuch : List (List ℕ) → Type 0) → IsSomeAnd file (λ bytes. AreSuch (payloads bytes))
-    → AreSuch (payloads_in file)
-such_in None AreSuch such = absurd such
-such_in (Some bytes) AreSuch such = such
 
 pub says_of : (number catalogue : ℕ) (version : VersionView) (folder : Folder) (pointers edits : List (List ℕ))
     → HasList pointers (folder current_name) → SaysCurrent pointers (pointer_to number catalogue)

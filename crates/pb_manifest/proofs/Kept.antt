@@ -1,5 +1,6 @@
 -- What holds of a version after an edit that breaks no rule, and of one that edits fold to.
 use Rattle.std.proofs.Common.{◌≡◌, ℕ, ◌≤◌, List, [], ◌∷◌, ◌++◌, Bool, true, false, refl, subst, arith}
+use Rattle.std.proofs.lemmas.Bool.{and_parts, leb-true}
 use Rattle.std.proofs.lemmas.Bool.Decides.{nat_tests}
 use Rattle.std.specs.Prelude.{not, ◌&&◌, ◌||◌, ◌==◌, nat_le, nat_lt, if◌then◌else◌, Option, Some, None, is_some}
 use Rattle.pb_edit.specs.Edit.{VersionEdit}
@@ -15,16 +16,8 @@ use Rattle.pb_manifest.specs.Numbers.{IsFolded}
 
 -- ---- tests
 
-pub le_of : (m n : ℕ) → nat_le m n ≡ true → m ≤ n
-le_of m n is = grind (arith, nat_tests)
-
 pub le_is : (m n : ℕ) → m ≤ n → nat_le m n ≡ true
 le_is m n is = grind (arith, nat_tests)
-
-of_two : (a b : Bool) → (a && b) ≡ true → (a ≡ true) × (b ≡ true)
-of_two true true is = (refl, refl)
-of_two true false is = cc
-of_two false b is = cc
 
 -- the answer of nine tests, one after the other
 abbrev pub first_of_nine : Bool → Bool → Bool → Bool → Bool → Bool → Bool → Bool → Bool → Option Broken
@@ -64,7 +57,7 @@ last_rules old edit none =
 
 five_kept : (old new : FiveNumbers) (c : Bool) → (none_of_four_falls old new && fit_each_other new && c) ≡ true
     → (none_of_four_falls old new ≡ true) × (fit_each_other new ≡ true)
-five_kept old new c is = of_two (none_of_four_falls old new) (fit_each_other new) (of_two (none_of_four_falls old new && fit_each_other new) c is).0
+five_kept old new c is = and_parts (none_of_four_falls old new) (fit_each_other new) (and_parts (none_of_four_falls old new && fit_each_other new) c is).0
 
 fits_after : (old : VersionView) (edit : VersionEdit) → first_broken old edit ≡ None → fit_each_other (edited old edit).five ≡ true
 unfolding edited
@@ -73,8 +66,8 @@ fits_after old edit none =
 
 next_kept : (a b c d e f g h : ℕ) → (nat_le a b && nat_le c d && nat_le e f && nat_le g h) ≡ true → c ≤ d
 next_kept a b c d e f g h is =
-    le_of c d (of_two (nat_le a b) (nat_le c d) (of_two (nat_le a b && nat_le c d) (nat_le e f)
-    (of_two (nat_le a b && nat_le c d && nat_le e f) (nat_le g h) is).0).0).1
+    leb-true c d (and_parts (nat_le a b) (nat_le c d) (and_parts (nat_le a b && nat_le c d) (nat_le e f)
+    (and_parts (nat_le a b && nat_le c d && nat_le e f) (nat_le g h) is).0).0).1
 
 -- the reserved numbers stay reserved
 pub next_stays : (old : VersionView) (edit : VersionEdit) → first_broken old edit ≡ None → old.five.next ≤ (edited old edit).five.next
@@ -120,9 +113,9 @@ folded_by payloads version says = (says.edits, says.folds)
 pub first_has_next : (edit : VersionEdit) → first_broken empty_version edit ≡ None → is_some edit.next ≡ true
 first_has_next edit none =
     let kept = (last_rules empty_version edit none).2 in
-    let all_five : has_all_five edit ≡ true = (of_two _ _ kept).1 in
-    (of_two (is_some edit.accepted) (is_some edit.next)
-    (of_two (is_some edit.accepted && is_some edit.next) (is_some edit.log)
-    (of_two (is_some edit.accepted && is_some edit.next && is_some edit.log) (is_some edit.flushed)
-    (of_two (is_some edit.accepted && is_some edit.next && is_some edit.log && is_some edit.flushed) (is_some edit.format)
+    let all_five : has_all_five edit ≡ true = (and_parts _ _ kept).1 in
+    (and_parts (is_some edit.accepted) (is_some edit.next)
+    (and_parts (is_some edit.accepted && is_some edit.next) (is_some edit.log)
+    (and_parts (is_some edit.accepted && is_some edit.next && is_some edit.log) (is_some edit.flushed)
+    (and_parts (is_some edit.accepted && is_some edit.next && is_some edit.log && is_some edit.flushed) (is_some edit.format)
     all_five).0).0).0).1

@@ -6,6 +6,7 @@ use Rattle.pb_devices.proofs.Kept.{kept_at_then, kept_but_more, stays_kept_at, s
 use Rattle.pb_gate_log.specs.Calls.{IsOpened, Opens}
 use Rattle.pb_gate_log.specs.EachLog.{LogPlace}
 use Rattle.pb_gate_log.specs.Payloads.{HasList, payloads, payloads_in}
+use Rattle.pb_gate_log.proofs.FilePayloads.{has_payloads, such_in}
 use Rattle.pb_gate_log.proofs.LogStates.{each_kept, each_kept_at}
 use Rattle.pb_gate_log.specs.NewFolder.{IsNew}
 use Rattle.pb_names.specs.Spelling.{current_name}
@@ -15,10 +16,10 @@ use Rattle.pb_version.specs.SaysVersion.{SaysVersion}
 use Rattle.pb_manifest.specs.Found.{AreThere, HasVersion, IsDamaged, IsLacking, IsNamed, IsUnfolded, IsUnreserved, KeepsPayloads, KeepsUnnamed, Names, Says}
 use Rattle.pb_manifest.specs.Manifest.{EachManifest, catalogue_name, manifest_name}
 use Rattle.pb_manifest.specs.Steps.{IsFound, IsLost, IsUnread, OpensIfThere}
-use Rattle.pb_manifest.proofs.Folders.{apart, apart_catalogue, has_payloads, has_such, such_has, such_in}
+use Rattle.pb_manifest.proofs.Folders.{apart, apart_catalogue, has_such, such_has}
 use Rattle.pb_manifest.proofs.Opening.{both_keep, both_settled, new_names_none}
 use Rattle.pb_manifest.proofs.Logs.{opened_there}
-use Rattle.pb_manifest.proofs.Results.{some_has}
+use Rattle.pb_keys.proofs.Options.{some_has}
 
 -- ---- two folders in which the two files are the same
 

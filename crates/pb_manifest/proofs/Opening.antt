@@ -1,6 +1,5 @@
 -- What an opening finds and leaves.
-use Rattle.std.proofs.Common.{◌≡◌, ◌≢◌, ◌<◌, ◌⊎◌, ◌^◌, ℕ, List, [], Bool, false, true, Option, Some, None, IsSome, IsSomeAnd, refl, sym, ap, ◌∙◌, subst, inl, inr, arith}
-use Rattle.std.specs.List.{last_or}
+use Rattle.std.proofs.Common.{◌≡◌, ◌≢◌, ◌<◌, ◌⊎◌, ◌^◌, ℕ, List, Bool, false, true, Option, Some, None, IsSome, IsSomeAnd, refl, sym, ap, subst, inl, inr, arith}
 use Rattle.std.proofs.lemmas.Bool.{false≢true}
 use Rattle.std.proofs.lemmas.Slice.Eq.{bytes_eq-Decides}
 use Rattle.std.specs.Str.{bytes_eq}
@@ -8,11 +7,12 @@ use Rattle.std.specs.Bool.{Decides}
 use Rattle.pb_devices.specs.Contents.{Contents, Folder, MayLeave, IsSettled}
 use Rattle.pb_devices.proofs.Images.{settled_image}
 use Rattle.pb_names.specs.Spelling.{current_name}
-use Rattle.pb_payloads.specs.Current.{Pointer, SaysCurrent, pointer_spelling}
-use Rattle.pb_payloads.proofs.CurrentLaws.{one_current}
+use Rattle.pb_payloads.specs.Current.{Pointer, SaysCurrent}
+use Rattle.pb_payloads.proofs.CurrentLaws.{no_pointer, one_current}
 use Rattle.pb_version.specs.Version.{VersionView}
 use Rattle.pb_version.specs.SaysVersion.{SaysVersion}
-use Rattle.pb_gate_log.specs.Payloads.{payloads, payloads_in}
+use Rattle.pb_gate_log.specs.Payloads.{payloads}
+use Rattle.pb_gate_log.proofs.FilePayloads.{both_read, such_in}
 use Rattle.pb_gate_log.specs.NewFolder.{IsNew}
 use Rattle.pb_manifest.specs.Manifest.{manifest_name}
 use Rattle.pb_manifest.specs.Found.{HasVersion, IsDamagedAt, IsDamaged, KeepsPayloads, Names, KeepsPayloadsOf}
@@ -22,21 +22,11 @@ use Rattle.pb_version.proofs.SaysLaws.{one_version}
 
 -- ---- one finding
 
-none_named : (file : Option (List ℕ)) (pointer : Pointer) → payloads_in file ≡ []
-    → IsSomeAnd file (λ bytes. SaysCurrent (payloads bytes) pointer) → ⊥
-none_named None pointer none names = absurd names
-none_named (Some bytes) pointer none names =
-    let last : last_or None [] ≡ Some (pointer_spelling pointer) = ap (last_or None) (sym none) ∙ names.last in
-    cc
-
 pub new_names_none : (folder : Folder) (pointer : Pointer) → IsNew folder → Names pointer folder → ⊥
-new_names_none folder pointer none names = none_named (folder current_name) pointer none names
-
--- two facts on the payloads of one file
-both_such : {Fact : Type 0} (file : Option (List ℕ)) (One Other : List (List ℕ) → Type 0) → IsSomeAnd file (λ bytes. One (payloads bytes))
-    → IsSomeAnd file (λ bytes. Other (payloads bytes)) → ((list : List (List ℕ)) → One list → Other list → Fact) → Fact
-both_such None One Other one other both = absurd one
-both_such (Some bytes) One Other one other both = both (payloads bytes) one other
+new_names_none folder pointer none names =
+    no_pointer pointer
+    (subst (λ (list : List (List ℕ)). SaysCurrent list pointer) none
+    (such_in (folder current_name) (λ list. SaysCurrent list pointer) names))
 
 absent_such : (file : Option (List ℕ)) (AreSuch : List (List ℕ) → Type 0) → file ≡ None
     → IsSomeAnd file (λ bytes. AreSuch (payloads bytes)) → ⊥
@@ -59,7 +49,7 @@ not_damaged_at number catalogue version folder file has amiss =
         ]
         | inr unreserved ↦
             let same =
-            both_such (folder (manifest_name number)) (λ list. SaysVersion list version) (λ list. SaysVersion list unreserved.1.0)
+            both_read (folder (manifest_name number)) (λ list. SaysVersion list version) (λ list. SaysVersion list unreserved.1.0)
             has.says unreserved.1.1
             (λ list one other. one_version list version unreserved.1.0 one other) in
             let own = has.own in
@@ -76,7 +66,7 @@ not_damaged folder pointer version file names has damaged =
       | inl pointless ↦ pointless.1.1 pointer names
       | inr amiss ↦
           let same =
-          both_such (folder current_name) (λ list. SaysCurrent list pointer) (λ list. SaysCurrent list amiss.0) names amiss.1
+          both_read (folder current_name) (λ list. SaysCurrent list pointer) (λ list. SaysCurrent list amiss.0) names amiss.1
           (λ list one other. one_current list pointer amiss.0 one other) in
           not_damaged_at pointer.manifest pointer.catalogue version folder file has
           (subst (λ (p : Pointer). IsDamagedAt p.manifest p.catalogue folder file) (sym same) amiss.2)

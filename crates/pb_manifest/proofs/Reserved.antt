@@ -1,5 +1,6 @@
 -- The edit that reserves numbers breaks no rule of a version behind its first edit, and changes one number of it.
 use Rattle.std.proofs.Common.{◌≡◌, ℕ, ◌+◌, ◌≤◌, ◌<◌, ◌^◌, List, [], ◌∷◌, Bool, true, false, length, refl, ap, ◌∙◌, arith}
+use Rattle.std.proofs.lemmas.Bool.{eqb-true}
 use Rattle.std.proofs.lemmas.Bool.Decides.{nat_tests}
 use Rattle.std.specs.Prelude.{not, ◌&&◌, ◌||◌, ◌==◌, nat_le, nat_lt, if◌then◌else◌, Some, None}
 use Rattle.std.specs.List.{filter, list_all}
@@ -9,7 +10,6 @@ use Rattle.pb_version.specs.Version.{TableView, VersionView, all_tables}
 use Rattle.pb_version.specs.Edited.{each_level, level_after, backings_after, edited}
 use Rattle.pb_version.specs.Rules.{keeps_v4, keeps_v6, keeps_v7, keeps_v8, keeps_v9, level_keeps_v4, has_its_backing, has_virtual, fit_each_other, first_broken}
 use Rattle.pb_version.specs.State.{IsVersion}
-use Rattle.pb_version.proofs.Lists.{same_number}
 use Rattle.pb_manifest.specs.Numbers.{reservation, with_next}
 
 no_item : (next : ℕ) → edit_spelling (reservation next) ≡ [] → ⊥
@@ -72,7 +72,7 @@ unfolding first_broken
 reservation_unbroken old next is begun above =
     let five = old.five in
     let fits : fit_each_other five ≡ true =
-    or_else (five.format == 0) (fit_each_other five) is.fits (λ none. begun (same_number five.format 0 none)) in
+    or_else (five.format == 0) (fit_each_other five) is.fits (λ none. begun (eqb-true five.format 0 none)) in
     let v4 : keeps_v4 old (reservation next) ≡ true =
     each_true (level_keeps_v4 old (reservation next)) (λ level tables. refl) 0 old.levels in
     let v6 : keeps_v6 old (reservation next) ≡ true =

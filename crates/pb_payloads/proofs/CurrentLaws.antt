@@ -23,6 +23,12 @@ one_current payloads p q p_says q_says =
     let same : pointer_spelling p ≡ pointer_spelling q = cc in
     one_pointer p q p_says.in_form q_says.in_form same
 
+-- no payloads say none
+pub no_pointer : (pointer : Pointer) → SaysCurrent [] pointer → ⊥
+no_pointer pointer says =
+    let last : last_or None [] ≡ Some (pointer_spelling pointer) = says.last in
+    cc
+
 last_or-more : (before : Option (List ℕ)) (payloads : List (List ℕ)) (payload : List ℕ) → last_or before (payloads ++ payload ∷ []) ≡ Some payload
 last_or-more before [] payload = refl
 last_or-more before (first ∷ payloads) payload = last_or-more (Some first) payloads payload

@@ -2,6 +2,7 @@ pub mod Examples
 pub mod SpellingLaws
 pub mod LoggedLaws
 pub mod CataloguedLaws
+pub mod CatalogueFolds
 pub mod CurrentLaws
 pub mod Pointers
 pub mod Results

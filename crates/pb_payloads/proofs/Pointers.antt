@@ -2,7 +2,7 @@
 use Rattle.std.proofs.Common.{◌≡◌, ℕ, suc, ◌-◌, ◌<◌, ◌^◌, List, [], ◌∷◌, ◌++◌, true, length, get_or, Option, Some, None, refl, sym, ap, ◌∙◌, arith}
 use Rattle.std.specs.List.{last_or}
 use Rattle.std.specs.Prelude.{◌==◌}
-use Rattle.std.proofs.lemmas.Bool.Decides.{nat_tests}
+use Rattle.std.proofs.lemmas.Bool.{eqb-true}
 use Rattle.std.proofs.lemmas.List.{append-nil}
 use Rattle.pb_bytes.specs.Varint.{varint}
 use Rattle.pb_bytes.proofs.ReadingLemmas.{one_varint}
@@ -29,12 +29,9 @@ pub both_read : (from rest last : List ℕ) (manifest catalogue : ℕ) → from 
 both_read from rest last manifest catalogue read then none =
     read ∙ ap (λ (r : List ℕ). varint manifest ++ r) (then ∙ ap (λ (l : List ℕ). varint catalogue ++ l) none ∙ append-nil (varint catalogue))
 
-same_number : (m n : ℕ) → (m == n) ≡ true → m ≡ n
-same_number m n is = grind (arith, nat_tests)
-
 pub empty_of : (xs : List ℕ) → (length xs == 0) ≡ true → xs ≡ []
 empty_of [] is = refl
-empty_of (x ∷ xs) is = absurd (omega (arith, same_number (length (x ∷ xs)) 0 is))
+empty_of (x ∷ xs) is = absurd (omega (arith, eqb-true (length (x ∷ xs)) 0 is))
 
 -- ---- the last payload
 

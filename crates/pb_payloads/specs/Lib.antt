@@ -2,6 +2,7 @@ pub mod Logged
 pub mod Log
 pub mod Catalogued
 pub mod Catalogue
+pub mod Left
 pub mod Current
 pub mod Places
 pub mod Payloads

@@ -4,7 +4,7 @@ use Rattle.std.specs.Prelude.{is_some, option_map, ◌==◌, ◌||◌}
 use Rattle.std.specs.List.{find, flat_map, list_any}
 use Rattle.std.proofs.lemmas.Bool.{eq-eqb, eqb-true}
 use Rattle.std.proofs.lemmas.List.{drop_more, flat_map_more, map-append, take_all, take_more}
-use Rattle.std.proofs.lemmas.Option.{slice_get_within, slice_get-get_or}
+use Rattle.std.proofs.lemmas.Option.{same_Some, slice_get_within, slice_get-get_or}
 use Rattle.pb_edit.specs.Edit.{CreatedItem}
 use Rattle.pb_marker_world.specs.declared.stages.Stage.{Stage}
 use Rattle.pb_payloads.specs.Catalogue.{Entries}
@@ -38,15 +38,12 @@ stored_both version number =
 
 -- ---- entry by entry
 
-one_item : {X : Type 0} (x y : X) → Some x ≡ Some y → x ≡ y
-one_item x y same = cc
-
 -- one entry more
 pub stages_more : (version : VersionView) (entries : Entries) (place : ℕ) (entry : ℕ × Standing) → slice_get entries place ≡ Some entry
     → stages_of version (take (place + 1) entries) ≡ stages_of version (take place entries) ++ of_shared entry.1 (entry.0, stage_of version entry.0)
 stages_more version entries place entry is =
     let within = slice_get_within entries place entry is in
-    let same : get_or entries place entry ≡ entry = one_item (get_or entries place entry) entry (sym (slice_get-get_or entries place entry within) ∙ is) in
+    let same : get_or entries place entry ≡ entry = same_Some (get_or entries place entry) entry (sym (slice_get-get_or entries place entry within) ∙ is) in
     ap (stages_of version) (take_more entries place entry within ∙ ap (λ e. take place entries ++ e ∷ []) same)
     ∙ sym (flat_map_more (λ e. of_shared e.1 (e.0, stage_of version e.0)) [] (take place entries) entry)
 

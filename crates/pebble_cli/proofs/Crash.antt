@@ -1,7 +1,7 @@
 -- A line keeps the headline: what each image of the folder stands for, before it and after it.
 use Rattle.std.proofs.Common.{◌≡◌, ◌≢◌, ℕ, ◌+◌, ◌==◌, Bool, true, false, cond, if◌then◌else◌, ◌⊎◌, inl, inr, List, [], ◌∷◌, ◌++◌, Option, Some, None, MatchBool, refl, sym, ap, ◌∙◌, subst, append_assoc, append-nil, arith}
 use Rattle.std.specs.Str.{bytes_eq}
-use Rattle.std.proofs.lemmas.Bool.{cond_both}
+use Rattle.std.proofs.lemmas.Bool.{both_ways, cases_Bool, cond_both}
 use Rattle.std.proofs.lemmas.Slice.Eq.{bytes_eq-Decides}
 use Rattle.pb_devices.specs.Contents.{Contents, Folder, MayLeave, IsImage}
 use Rattle.pb_keys.specs.Map.{Map}
@@ -34,13 +34,6 @@ use Rattle.pebble_cli.proofs.StepFacts.{family, family_start, family_after}
 use Rattle.pebble_cli.proofs.Progress.{Reaches}
 
 -- ---- tests
-
-either : (b : Bool) → (b ≡ true) ⊎ (b ≡ false)
-either true = inl refl
-either false = inr refl
-
-not_both : (b : Bool) → b ≡ true → b ≡ false → ⊥
-not_both b is not = cc
 
 at_true : (b : Bool) (P Q : Type 0) → b ≡ true → P → MatchBool b P Q
 at_true b P Q is h = subst (λ (x : Bool). MatchBool x P Q) (sym is) h
@@ -76,7 +69,7 @@ module _ (entry : Contents) (state : StoreState) (n : ℕ) (m : Map) where
 
   pub held_kept : Begun → IsHeld entry state n m → IsKept entry state.history n m
   held_kept begun held =
-      elim (either (is_open state)) [
+      elim (cases_Bool (is_open state)) [
         | inl is ↦ at_true state.history.has_begun (IsHistory state.history n m) (MayStandFor entry n m) (begun is)
             (inl (of_true (is_open state) (IsAccepted state.history n m) (IsKept entry state.history n m) is held))
         | inr not ↦ of_false (is_open state) (IsAccepted state.history n m) (IsKept entry state.history n m) not held
@@ -89,7 +82,7 @@ module _ (entry : Contents) (state : StoreState) (n : ℕ) (m : Map) where
   open_kept begun held opened r is =
       let P : StoreState → Type 0 = λ s. is_open s ≡ false → IsKept entry s.history n m in
       cond_both (r == 0) opened (if r == 3 then state else shut state) P
-      (λ _ not. absurd (not_both (is_open opened) is not))
+      (λ _ not. absurd (both_ways (is_open opened) not is))
       (λ _. cond_both (r == 3) state (shut state) P (λ _ _. held_kept begun held) (λ _ _. held_kept begun held))
 
   -- after a command that left it closed or Down
@@ -107,10 +100,10 @@ module _ (entry : Contents) (state : StoreState) (n : ℕ) (m : Map) where
     down_kept r is begun history =
         let P : StoreState → Type 0 = λ s. is_open s ≡ false → IsKept entry s.history n m in
         cond_both (r == 0) taken (if r == 22 then fallen command state else state) P
-        (λ _ not. absurd (not_both (is_open state) is (sym (taken_open (changing_of command)) ∙ not)))
+        (λ _ not. absurd (both_ways (is_open state) (sym (taken_open (changing_of command)) ∙ not) is))
         (λ _. cond_both (r == 22) (fallen command state) state P
         (λ _ _. at_true state.history.has_begun (IsHistory (fallen command state).history n m) (MayStandFor entry n m) begun history)
-        (λ _ not. absurd (not_both (is_open state) is not)))
+        (λ _ not. absurd (both_ways (is_open state) not is)))
 
     pub shut_kept : (r : ℕ) → r ≡ 2 → IsKept entry state.history n m → IsKept entry (if r == 0 then taken else (if r == 22 then fallen command state else state)).history n m
     shut_kept r is kept = subst (λ q. IsKept entry (if q == 0 then taken else (if q == 22 then fallen command state else state)).history n m) (sym is) kept
@@ -119,15 +112,15 @@ module _ (entry : Contents) (state : StoreState) (n : ℕ) (m : Map) where
         → is_open (if r == 0 then taken else (if r == 22 then fallen command state else state)) ≡ false
         → IsKept entry (if r == 0 then taken else (if r == 22 then fallen command state else state)).history n m
     command_kept r begun held refused now =
-        elim (either (is_open state)) [
+        elim (cases_Bool (is_open state)) [
           | inl is ↦ down_kept r is (begun is) (inl (of_true (is_open state) (IsAccepted state.history n m) (IsKept entry state.history n m) is held)) now
           | inr not ↦ shut_kept r (refused not) (held_kept begun held)
         ]
 
 pub begun_in : (store : Store) (state : StoreState) → IsIn store state → is_open state ≡ true → state.history.has_begun ≡ true
-begun_in Closed state is opened = absurd (not_both (is_open state) opened is.0)
+begun_in Closed state is opened = absurd (both_ways (is_open state) is.0 opened)
 begun_in (Open held) state is opened = is.2
-begun_in Down state is opened = absurd (not_both (is_open state) opened is.0)
+begun_in Down state is opened = absurd (both_ways (is_open state) is.0 opened)
 
 not_open_reply : (state : StoreState) (reply other : Reply) → reply ≡ (if is_open state then other else Refused NotOpen) → is_open state ≡ false → refusal_of reply ≡ 2
 not_open_reply state reply other is not = ap refusal_of (is ∙ ap (λ b. if b then other else Refused NotOpen) not)

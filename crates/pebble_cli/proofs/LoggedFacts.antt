@@ -1,10 +1,11 @@
 -- A command in the log, and in the map.
-use Rattle.std.proofs.Common.{◌≡◌, ℕ, ◌+◌, ◌⊎◌, inl, inr, List, [], ◌∷◌, ◌++◌, Option, Some, None, Ok, Err, refl, sym, ap, ◌∙◌, subst}
+use Rattle.std.proofs.Common.{◌≡◌, ℕ, ◌+◌, ◌⊎◌, inl, inr, List, [], ◌∷◌, ◌++◌, Option, Ok, Err, refl, sym, ap, ◌∙◌, subst}
 use Rattle.std.specs.FinMap.{insert}
 use Rattle.pb_devices.specs.BeforeOrAfter.{IsBeforeOrAfter}
 use Rattle.pb_devices.specs.Contents.{Contents, MayLeave}
 use Rattle.pb_devices.proofs.Kept.{kept_same}
 use Rattle.pb_gate_log.specs.Calls.{Appends}
+use Rattle.pb_gate_log.proofs.FilePayloads.{has_payloads}
 use Rattle.pb_gate_log.proofs.LogStates.{each_has}
 use Rattle.pb_gate_log.specs.EachLog.{LogPlace, EachLog}
 use Rattle.pb_gate_log.specs.Payloads.{HasList, payloads_in}
@@ -13,10 +14,6 @@ use Rattle.pb_keys.specs.Map.{Map}
 use Rattle.pebble_cli.specs.Store.{Held, with_pair}
 use Rattle.pebble_cli.specs.Folder.{log_name, KeepsLog, LeavesHeld, Make}
 use Rattle.pebble_cli.proofs.SetFacts.{make_more}
-
-has_payloads : (list : List (List ℕ)) (image : Option (List ℕ)) → HasList list image → payloads_in image ≡ list
-has_payloads list None has = absurd has
-has_payloads list (Some bytes) has = has
 
 -- nothing was appended
 pub appends_nothing : {T E : Type 0} (log : LogPlace) (payload : List ℕ) (disk : Contents) (error : E) → Appends log log payload disk disk {T = T} {E = E} (Err error)

@@ -1,6 +1,6 @@
 use Rattle.pb_payloads.specs.Payloads.{catalogued_of}
 use Rattle.pb_catalog.specs.Entered.{entries_of}
-use Rattle.pb_catalog.proofs.Folds.{no_change}
+use Rattle.pb_payloads.proofs.CatalogueFolds.{no_change}
 use Rattle.pb_catalog.proofs.read.follow.Goals as goal
 
 pub returns-clause-no : goal.returns-clause-no

@@ -1,8 +1,9 @@
 use Rattle.std.proofs.Common.{◌≡◌, ◌+◌, ◌∷◌, [], ℕ, List, drop, sym, subst}
 use Rattle.std.proofs.lemmas.List.{drop_all}
+use Rattle.pb_keys.proofs.Lists.{item_first}
 use Rattle.pb_catalog.specs.Entered.{entries_of}
-use Rattle.pb_catalog.specs.Left.{ChangesTo}
-use Rattle.pb_catalog.proofs.Folds.{AlikeOn, alike_more, item_first, next_change, none_left}
+use Rattle.pb_payloads.specs.Left.{ChangesTo}
+use Rattle.pb_payloads.proofs.CatalogueFolds.{AlikeOn, alike_more, next_change, none_left}
 use Rattle.pb_catalog.proofs.read.follow_all.Goals as goal
 
 pub returns-then-not-branch-clause-none : goal.returns-then-not-branch-clause-none

@@ -6,10 +6,12 @@ use Rattle.pb_payloads.specs.Catalogued.Catalogued.{Id}
 use Rattle.pb_catalog.specs.Catalog.{IsEntered}
 use Rattle.pb_catalog.specs.Entered.{entries_of}
 use Rattle.pb_catalog.specs.Found.{IsDamaged}
-use Rattle.pb_catalog.specs.Left.{ChangesTo}
-use Rattle.pb_catalog.proofs.Folds.{changes_enter, item_first, says_behind_id}
+use Rattle.pb_payloads.specs.Left.{ChangesTo}
+use Rattle.pb_keys.proofs.Lists.{item_first}
+use Rattle.pb_payloads.proofs.CatalogueFolds.{says_behind_id}
+use Rattle.pb_catalog.proofs.Folds.{changes_enter}
 use Rattle.pb_catalog.proofs.Found.{damaged_behind}
-use Rattle.pb_catalog.proofs.Results.{none_has, some_has}
+use Rattle.pb_keys.proofs.Options.{none_has, some_has}
 use Rattle.std.proofs.lemmas.List.Elements.{All-nil}
 use Rattle.pb_catalog.proofs.read.read_entries.Goals as goal
 

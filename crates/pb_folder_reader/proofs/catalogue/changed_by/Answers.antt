@@ -1,8 +1,8 @@
 use Rattle.std.proofs.Common.{◌≡◌, ◌+◌, ◌∷◌, [], ℕ, List, drop, sym, subst}
 use Rattle.std.proofs.lemmas.List.{drop_all}
-use Rattle.pb_folder_reader.specs.Left.{ChangesTo}
-use Rattle.pb_folder_reader.proofs.CatalogueFolds.{AlikeOn, alike_more, next_change, none_left}
-use Rattle.pb_folder_reader.proofs.Lists.{item_first}
+use Rattle.pb_payloads.specs.Left.{ChangesTo}
+use Rattle.pb_payloads.proofs.CatalogueFolds.{AlikeOn, alike_more, next_change, none_left}
+use Rattle.pb_keys.proofs.Lists.{item_first}
 use Rattle.pb_folder_reader.proofs.catalogue.changed_by.Goals as goal
 
 pub returns-then-not-branch-clause-none : goal.returns-then-not-branch-clause-none

@@ -1,5 +1,5 @@
 use Rattle.std.proofs.Common.{[], drop}
-use Rattle.pb_folder_reader.proofs.CatalogueFolds.{AlikeOn}
+use Rattle.pb_payloads.proofs.CatalogueFolds.{AlikeOn}
 use Rattle.pb_folder_reader.proofs.catalogue.changed_by.Given as goal
 
 abbrev pub invariant-loop-payload : goal.invariant-loop-payload

@@ -2,9 +2,9 @@ use Rattle.std.proofs.Common.{◌≡◌, ◌-◌, ℕ, List, [], ◌∷◌, drop
 use Rattle.std.proofs.lemmas.List.{take_rest}
 use Rattle.pb_payloads.proofs.Results.{if_none}
 use Rattle.pb_payloads.specs.Catalogue.{Entries, SaysCatalogue, with_id}
-use Rattle.pb_folder_reader.specs.Left.{ChangesTo}
-use Rattle.pb_folder_reader.proofs.CatalogueFolds.{behind_id, says_behind_id}
-use Rattle.pb_folder_reader.proofs.Lists.{item_first}
+use Rattle.pb_payloads.specs.Left.{ChangesTo}
+use Rattle.pb_payloads.proofs.CatalogueFolds.{behind_id, says_behind_id}
+use Rattle.pb_keys.proofs.Lists.{item_first}
 use Rattle.pb_folder_reader.proofs.Results.{if_some}
 use Rattle.pb_folder_reader.proofs.catalogue.entries_of.Goals as goal
 

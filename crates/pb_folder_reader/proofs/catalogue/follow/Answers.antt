@@ -1,5 +1,5 @@
 use Rattle.pb_payloads.specs.Payloads.{catalogued_of}
-use Rattle.pb_folder_reader.proofs.CatalogueFolds.{no_change}
+use Rattle.pb_payloads.proofs.CatalogueFolds.{no_change}
 use Rattle.pb_folder_reader.proofs.catalogue.follow.Goals as goal
 
 pub returns-clause-no : goal.returns-clause-no

@@ -1,7 +1,7 @@
 use Rattle.std.proofs.Common.{refl}
 use Rattle.pb_payloads.specs.Catalogued.Catalogued.{Id}
 use Rattle.pb_payloads.specs.Payloads.{catalogued_of}
-use Rattle.pb_folder_reader.proofs.CatalogueFolds.{other_id}
+use Rattle.pb_payloads.proofs.CatalogueFolds.{other_id}
 use Rattle.pb_folder_reader.proofs.catalogue.spells_id.Goals as goal
 
 pub returns-in_default-clause-no : goal.returns-in_default-clause-no

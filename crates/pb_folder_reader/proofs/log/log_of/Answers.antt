@@ -7,7 +7,7 @@ use Rattle.pb_wal.specs.Changes.{entry_of}
 use Rattle.pb_wal.specs.declared.entry.Entry.{Entry}
 use Rattle.pb_folder_reader.specs.Left.{IsNext}
 use Rattle.pb_folder_reader.proofs.Entries.{IsReadUpTo, next_among, read_more}
-use Rattle.pb_folder_reader.proofs.Lists.{item_first}
+use Rattle.pb_keys.proofs.Lists.{item_first}
 use Rattle.pb_folder_reader.proofs.log.log_of.Goals as goal
 
 pub returns-in_default-clause-none : goal.returns-in_default-clause-none

@@ -3,7 +3,7 @@ use Rattle.pb_gate_log.specs.Calls.{IsOpened}
 use Rattle.pb_names.specs.Spelling.{current_name}
 use Rattle.pb_payloads.specs.Current.{SaysCurrent, pointer_to}
 use Rattle.pb_manifest.proofs.Opened.{is_found}
-use Rattle.pb_manifest.proofs.Results.{some_has}
+use Rattle.pb_keys.proofs.Options.{some_has}
 use Rattle.pb_manifest.proofs.open.find.Goals as goal
 
 pub returns-clause-found : goal.returns-clause-found

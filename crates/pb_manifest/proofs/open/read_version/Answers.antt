@@ -4,7 +4,7 @@ use Rattle.pb_version.specs.SaysVersion.{SaysVersion}
 use Rattle.pb_version.specs.Version.{VersionView}
 use Rattle.pb_manifest.proofs.Errors.{same_file}
 use Rattle.pb_manifest.proofs.Folders.{such_has}
-use Rattle.pb_manifest.proofs.Results.{none_has}
+use Rattle.pb_keys.proofs.Options.{none_has}
 use Rattle.pb_manifest.proofs.open.read_version.Goals as goal
 
 pub returns-in_default-clause-damaged : goal.returns-in_default-clause-damaged

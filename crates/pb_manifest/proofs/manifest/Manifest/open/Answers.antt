@@ -4,7 +4,7 @@ use Rattle.pb_version.specs.Version.{FiveNumbers}
 use Rattle.pb_manifest.specs.Manifest.{manifest_name}
 use Rattle.pb_manifest.proofs.Opened.{are_named, had_version, is_opening, manifest_settled, opened_manifest, read_keeps, read_settled, read_unnamed, settled_log, unnamed_kept, unread_is_damaged}
 use Rattle.pb_manifest.proofs.Opening.{all_settled, first_kept, not_damaged}
-use Rattle.pb_manifest.proofs.Results.{some_has}
+use Rattle.pb_keys.proofs.Options.{some_has}
 use Rattle.pb_manifest.proofs.manifest.Manifest.open.Goals as goal
 use Rattle.pb_payloads.specs.Current.{pointer_to}
 

@@ -1,4 +1,4 @@
--- What the payloads that are left make of the entries that stand.
+-- What the payloads of a catalogue that are left make of the entries that stand.
 use Rattle.std.specs.Prelude.{◌≡◌, ℕ, List, Some, All, map}
 use Rattle.pb_payloads.specs.Catalogue.{Entries, entries_after, entries_from}
 use Rattle.pb_payloads.specs.Catalogued.{Catalogued, IsCatalogued, catalogued_spelling}

@@ -1,22 +1,15 @@
 -- What the payloads of a catalogue that are left say, behind those that were read.
 use Rattle.std.proofs.Common.{◌≡◌, ℕ, ◌<◌, ◌^◌, List, [], ◌∷◌, map, Option, Some, None, refl, sym, ap, ◌∙◌, subst}
 use Rattle.std.proofs.lemmas.List.Elements.{All-nil, All-cons, All-head, All-tail}
+use Rattle.std.proofs.lemmas.Option.{same_Some}
 use Rattle.std.specs.List.{All}
 use Rattle.std.specs.Option.{option_and_then, option_map}
+use Rattle.pb_keys.proofs.Lists.{head_of, tail_of}
 use Rattle.pb_payloads.specs.Catalogue.{Catalogue, Entries, SaysCatalogue, entries_after, entries_from, folded, with_id}
 use Rattle.pb_payloads.specs.Catalogued.{Catalogued, IsCatalogued, catalogued_spelling}
 use Rattle.pb_payloads.specs.Catalogued.Catalogued.{Id, Entered, Dropped}
+use Rattle.pb_payloads.specs.Left.{ChangesTo, IsChange}
 use Rattle.pb_payloads.proofs.CataloguedLaws.{one_catalogued}
-use Rattle.pb_folder_reader.specs.Left.{ChangesTo, IsChange}
-
-head_of : (x y : List ℕ) (xs ys : List (List ℕ)) → x ∷ xs ≡ y ∷ ys → x ≡ y
-head_of x y xs ys same = cc
-
-tail_of : (x y : List ℕ) (xs ys : List (List ℕ)) → x ∷ xs ≡ y ∷ ys → xs ≡ ys
-tail_of x y xs ys same = cc
-
-one_of : {X : Type 0} (x y : X) → Some x ≡ Some y → x ≡ y
-one_of x y same = cc
 
 pub changes_behind : (payload : List ℕ) (rest : List (List ℕ)) (old mid new : Entries) → IsChange payload old mid → ChangesTo mid rest new
     → ChangesTo old (payload ∷ rest) new
@@ -33,7 +26,7 @@ pub record NextChange (payload : List ℕ) (rest : List (List ℕ)) (old new : E
   pub is : IsChange payload old mid
   pub later : ChangesTo mid rest new
 
-reached : (after : Option Entries) (said : List Catalogued) (new : Entries) → option_and_then (λ (next : Entries). entries_from next said) after ≡ Some new
+pub reached : (after : Option Entries) (said : List Catalogued) (new : Entries) → option_and_then (λ (next : Entries). entries_from next said) after ≡ Some new
     → (mid : Entries) × (after ≡ Some mid) × (entries_from mid said ≡ Some new)
 reached None said new folds = cc
 reached (Some mid) said new folds = (mid, refl, folds)
@@ -66,7 +59,7 @@ next_change payload rest old new on = next_among payload rest old new on.said on
 pub one_change : (payload : List ℕ) (old one other : Entries) → IsChange payload old one → IsChange payload old other → one ≡ other
 one_change payload old one other a b =
     let same = one_catalogued a.catalogued b.catalogued a.in_form.content b.in_form.content (sym a.spelled ∙ b.spelled) in
-    one_of one other (sym a.after ∙ ap (entries_after old) same ∙ b.after)
+    same_Some one other (sym a.after ∙ ap (entries_after old) same ∙ b.after)
 
 -- ---- all of them, and those that are left
 
@@ -100,13 +93,14 @@ says_behind_id id payload rest entries is spelled on = record {
 
 -- the id comes first, and the others make the entries
 pub record IsBehindId (id : ℕ) (payload : List ℕ) (rest : List (List ℕ)) (entries : Entries) : Type 0 where
+  pub in_form : IsCatalogued (Id id)
   pub spelled : payload ≡ catalogued_spelling (Id id)
   pub on : ChangesTo [] rest entries
 
 made_of : (one id : ℕ) (reached : Option Entries) (entries : Entries) → option_map (with_id one) reached ≡ Some (with_id id entries) → (one ≡ id) × (reached ≡ Some entries)
 made_of one id None entries same = cc
 made_of one id (Some found) entries same =
-    let catalogues = one_of (with_id one found) (with_id id entries) same in
+    let catalogues = same_Some (with_id one found) (with_id id entries) same in
     (ap (λ (c : Catalogue). c.id) catalogues, ap (λ (c : Catalogue). Some c.entries) catalogues)
 
 behind_among : (id : ℕ) (payload : List ℕ) (rest : List (List ℕ)) (entries : Entries) (said : List Catalogued) → payload ∷ rest ≡ map catalogued_spelling said
@@ -115,6 +109,7 @@ behind_among id payload rest entries [] spelled in_form folds = cc
 behind_among id payload rest entries (Id one ∷ said) spelled in_form folds =
     let made = made_of one id (entries_from [] said) entries folds in
     record {
+      in_form = subst (λ (n : ℕ). IsCatalogued (Id n)) made.0 (All-head IsCatalogued (Id one) said in_form);
       spelled = head_of payload (catalogued_spelling (Id one)) rest (map catalogued_spelling said) spelled ∙ ap (λ n. catalogued_spelling (Id n)) made.0;
       on = record {
         said = said;

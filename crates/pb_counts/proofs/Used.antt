@@ -3,7 +3,7 @@ use Rattle.std.proofs.Common.{◌≡◌, ℕ, zero, suc, ◌+◌, ◌<◌, ◌�
 use Rattle.std.specs.Prelude.{◌||◌, ◌==◌, nat_lt, Some, None}
 use Rattle.std.specs.Option.{unwrap_or}
 use Rattle.std.specs.List.{list_all}
-use Rattle.std.proofs.lemmas.Bool.{false≢true, cases_lt, cases_eq}
+use Rattle.std.proofs.lemmas.Bool.{false≢true, cases_lt, cases_eq, and_parts, or_from, or_right, eqb-true, ltb-true, eq-eqb, ne_eqb}
 use Rattle.std.proofs.lemmas.List.{drop_more}
 use Rattle.std.proofs.lemmas.List.Folds.{list_any_at}
 use Rattle.std.proofs.lemmas.List.Sums.{AllPass-from_list_all}
@@ -11,8 +11,8 @@ use Rattle.pb_counts.specs.declared.user.User.{User}
 use Rattle.pb_counts.specs.Ascending.{Ascends}
 use Rattle.pb_counts.specs.Pairs.{is_before, is_pair, is_user, uses_in, used_in}
 use Rattle.pb_counts.specs.Counts.{CountsView, known_in, is_used, IsCounts, IsObsolete, AllUsed, CountedFromScratch}
-use Rattle.pb_counts.proofs.Lists.{left, right, neither, either, same_lists}
-use Rattle.pb_counts.proofs.Orders.{nat_order, pair_order, before-backing, eq_true, true_eq, false_eq, lt_true}
+use Rattle.pb_counts.proofs.Lists.{same_lists}
+use Rattle.pb_counts.proofs.Orders.{nat_order, pair_order, before-backing}
 
 -- who uses a backing has it used
 pub uses-used : (pairs : List (User × ℕ)) (user : User) (backing : ℕ) → uses_in pairs user backing ≡ true → used_in pairs backing ≡ true
@@ -20,10 +20,10 @@ uses-used [] user backing h = h
 uses-used (p ∷ ps) user backing h =
     elim (is_pair (user, backing) p) as (λ t. is_pair (user, backing) p ≡ t → used_in (p ∷ ps) backing ≡ true) [
       | true ↦ λ e.
-          let same : backing ≡ p.1 = eq_true backing p.1 (left (backing == p.1) (is_user user p.0) e) in
-          ap (λ t. t || used_in ps backing) (true_eq p.1 backing (sym same))
+          let same : backing ≡ p.1 = eqb-true backing p.1 (and_parts (backing == p.1) (is_user user p.0) e).0 in
+          ap (λ t. t || used_in ps backing) (eq-eqb p.1 backing (sym same))
       | false ↦ λ e.
-          either (p.1 == backing) (used_in ps backing) (uses-used ps user backing (sym (ap (λ t. t || uses_in ps user backing) e) ∙ h))
+          or_right (p.1 == backing) (used_in ps backing) (uses-used ps user backing (sym (ap (λ t. t || uses_in ps user backing) e) ∙ h))
     ] refl
 
 -- what is used has a user
@@ -32,11 +32,11 @@ user_of [] backing h = absurd (false≢true h)
 user_of (p ∷ ps) backing h =
     elim (p.1 == backing) as (λ t. (p.1 == backing) ≡ t → (user : User) × (uses_in (p ∷ ps) user backing ≡ true)) [
       | true ↦ λ e.
-          let same : (p.0, backing) ≡ p = ap (λ n. (p.0, n)) (sym (eq_true p.1 backing e)) in
+          let same : (p.0, backing) ≡ p = ap (λ n. (p.0, n)) (sym (eqb-true p.1 backing e)) in
           (p.0, ap (λ t. t || uses_in ps p.0 backing) (ap (λ q. is_pair q p) same ∙ pair_order.itself p))
       | false ↦ λ e.
           let (user, uses) = user_of ps backing (sym (ap (λ t. t || used_in ps backing) e) ∙ h) in
-          (user, either (is_pair (user, backing) p) (uses_in ps user backing) uses)
+          (user, or_right (is_pair (user, backing) p) (uses_in ps user backing) uses)
     ] refl
 
 -- a backing below the first pair's is used by nobody
@@ -44,9 +44,9 @@ none_below : (backing : ℕ) (p : User × ℕ) (ps : List (User × ℕ)) → bac
     used_in ps backing ≡ false
 none_below backing p [] h t = refl
 none_below backing p (q ∷ qs) h t =
-    let up = before-backing p q (left (is_before p q) (list_all (is_before p) qs) t) in
-    neither (q.1 == backing) (used_in qs backing) (false_eq q.1 backing (λ e. absurd (omega arith)))
-    (none_below backing p qs h (right (is_before p q) (list_all (is_before p) qs) t))
+    let up = before-backing p q (and_parts (is_before p q) (list_all (is_before p) qs) t).0 in
+    or_from (q.1 == backing) (used_in qs backing) (ne_eqb q.1 backing (λ e. absurd (omega arith)))
+    (none_below backing p qs h (and_parts (is_before p q) (list_all (is_before p) qs) t).1)
 
 above : (a b : ℕ) → a ≤ b → (b ≡ a → ⊥) → a < b
 above a b h differ = elim (cases_lt a b) [ inl below ↦ below | inr upto ↦ absurd (differ (omega arith)) ]
@@ -56,11 +56,11 @@ pub first_used : (pairs : List (User × ℕ)) (backing : ℕ) (d : User × ℕ) 
 first_used [] backing d up h within = absurd (omega arith)
 first_used (p ∷ ps) backing d up h within =
     elim (cases_eq p.1 backing) [
-      | inl same ↦ true_eq p.1 backing same ∙ sym (ap (λ t. t || used_in ps backing) (true_eq p.1 backing same))
+      | inl same ↦ eq-eqb p.1 backing same ∙ sym (ap (λ t. t || used_in ps backing) (eq-eqb p.1 backing same))
       | inr differ ↦
-          let e = false_eq p.1 backing differ in
+          let e = ne_eqb p.1 backing differ in
           let below : backing < p.1 = above backing p.1 h differ in
-          e ∙ sym (neither (p.1 == backing) (used_in ps backing) e (none_below backing p ps below up.0))
+          e ∙ sym (or_from (p.1 == backing) (used_in ps backing) e (none_below backing p ps below up.0))
     ]
 
 -- a pair of a backing below is passed
@@ -68,14 +68,14 @@ pub used-passed : (pairs : List (User × ℕ)) (at n : ℕ) (d : User × ℕ) �
     used_in (drop (at + 1) pairs) n ≡ used_in (drop at pairs) n
 used-passed pairs at n d within below =
     sym (ap (λ l. used_in l n) (drop_more pairs at d within)
-    ∙ ap (λ t. t || used_in (drop (at + 1) pairs) n) (false_eq (get_or pairs at d).1 n (λ e. absurd (omega arith))))
+    ∙ ap (λ t. t || used_in (drop (at + 1) pairs) n) (ne_eqb (get_or pairs at d).1 n (λ e. absurd (omega arith))))
 
 -- the place of a known backing
 known_at : (known : List ℕ) (n : ℕ) → known_in known n ≡ true → (k : ℕ) × (k < length known) × (get_or known k 0 ≡ n)
 known_at [] n h = absurd (false≢true h)
 known_at (m ∷ ms) n h =
     elim (m == n) as (λ t. (m == n) ≡ t → (k : ℕ) × (k < length (m ∷ ms)) × (get_or (m ∷ ms) k 0 ≡ n)) [
-      | true ↦ λ e. (0, omega arith, eq_true m n e)
+      | true ↦ λ e. (0, omega arith, eqb-true m n e)
       | false ↦ λ e.
           let (k, within, is) = known_at ms n (sym (ap (λ t. t || known_in ms n) e) ∙ h) in
           (suc k, omega arith, is)
@@ -84,7 +84,7 @@ known_at (m ∷ ms) n h =
 known_rise : (known : List ℕ) (i j : ℕ) → Ascends nat_lt known → i < j → j < length known → get_or known i 0 < get_or known j 0
 known_rise [] i j up h within = absurd (omega arith)
 known_rise (m ∷ ms) i zero up h within = absurd (omega arith)
-known_rise (m ∷ ms) zero (suc j) up h within = lt_true m (get_or ms j 0) (AllPass-from_list_all (nat_lt m) ms up.0 j 0 (omega arith))
+known_rise (m ∷ ms) zero (suc j) up h within = ltb-true m (get_or ms j 0) (AllPass-from_list_all (nat_lt m) ms up.0 j 0 (omega arith))
 known_rise (m ∷ ms) (suc i) (suc j) up h within = known_rise ms i j up.1 (omega arith) (omega arith)
 
 -- a later place has a greater backing, and a backing that isn't below stands no earlier
@@ -108,7 +108,7 @@ pub obsolete_at : (counts : CountsView) (i : ℕ) → IsCounts counts → i < le
     ((k : ℕ) → k < i → is_used counts (get_or counts.known k 0) ≡ true) → IsObsolete counts (get_or counts.known i 0)
 obsolete_at counts i form within unused before = record {
   known = list_any_at (λ n. n == get_or counts.known i 0) counts.known i 0 within
-      (true_eq (get_or counts.known i 0) (get_or counts.known i 0) refl);
+      (eq-eqb (get_or counts.known i 0) (get_or counts.known i 0) refl);
   unused = unused;
   least = λ other below known.
       let (k, inside, is) = known_at counts.known other known in

@@ -1,13 +1,20 @@
 -- Readings one behind the other, taken apart.
 use Rattle.std.proofs.Common.{◌≡◌, ℕ, List, [], ◌∷◌, ◌++◌, length, Option, Some, None, false, refl, sym, ap, ◌∙◌, append_assoc}
-use Rattle.std.specs.Prelude.{◌==◌}
-use Rattle.pb_bytes.specs.Reading.{◌>>=◌}
+use Rattle.std.specs.Prelude.{◌==◌, option_map}
+use Rattle.std.proofs.lemmas.Option.{same_Some}
+use Rattle.pb_bytes.specs.Reading.{◌>>=◌, behind}
 
 -- a step that found something
 pub bind_some : {A B : Type 0} (read : Option A) (f : A → Option B) (y : B) → (read >>= f) ≡ Some y
     → (x : A) × (read ≡ Some x) × (f x ≡ Some y)
 bind_some (Some x) f y e = (x, refl, e)
 bind_some None f y e = absurd cc
+
+-- what was read with the bytes behind it was read with the length of its spelling
+pub split_some : {A : Type 0} (bytes : List ℕ) (read : Option (A × ℕ)) (x : A × List ℕ) → option_map (behind bytes) read ≡ Some x
+    → (y : A × ℕ) × (read ≡ Some y) × (behind bytes y ≡ x)
+split_some bytes None x e = absurd cc
+split_some bytes (Some y) x e = (y, refl, same_Some (behind bytes y) x e)
 
 -- bytes that begin with this spelling, behind which the rest stands
 abbrev pub Splits : List ℕ → List ℕ → List ℕ → Type 0

@@ -1,15 +1,16 @@
 -- Layers whose hulls don't overlap: at a key one of them speaks, so their order doesn't matter.
-use Rattle.std.proofs.Common.{◌≡◌, ℕ, suc, ◌-◌, ◌<◌, List, [], ◌∷◌, length, get_or, reverse, true, false, refl, sym, ap, ◌∙◌, subst, arith, inl, inr}
+use Rattle.std.proofs.Common.{◌≡◌, ℕ, suc, ◌<◌, List, [], ◌∷◌, length, get_or, reverse, true, false, refl, sym, ap, ◌∙◌, subst, arith, inl, inr}
 use Rattle.std.specs.Prelude.{Option, Some, None, unwrap_or, All, Contains, ◌&&◌}
 use Rattle.std.specs.FinMap.{get}
 use Rattle.std.specs.List.{AllPairs}
 use Rattle.std.specs.Option.{option_or}
 use Rattle.std.proofs.lemmas.Bool.{cases_lt}
-use Rattle.std.proofs.lemmas.List.{get_or_default, get_or-reverse, length-reverse, reverse-reverse}
+use Rattle.std.proofs.lemmas.List.{get_or_default, reverse-reverse}
 use Rattle.std.proofs.lemmas.List.Elements.{All-nil, All-cons, All-contains}
 use Rattle.std.proofs.lemmas.Option.{same_Some}
 use Rattle.pb_keys.specs.Map.{Map}
 use Rattle.pb_keys.specs.Span.{KeySpan, holds_key}
+use Rattle.pb_keys.proofs.Lists.{in_reverse}
 use Rattle.pb_keys.proofs.MapFacts.{same_pairs}
 use Rattle.pb_rows.specs.Applied.{applied_in_turn}
 use Rattle.pb_rows.specs.Hull.{hull_of, HullsApart, HaveSameLayers}
@@ -121,14 +122,6 @@ same_members_say xs ys same apart key =
     ] refl
 
 -- ---- and from the last to the first
-
-in_reverse : (xs : List KeyLayer) (layer : KeyLayer) → Contains xs layer → Contains (reverse xs) layer
-in_reverse xs layer has =
-    let k = has.0 in
-    let within : k < length xs = has.1 in
-    let long : length (reverse xs) ≡ length xs = length-reverse xs in
-    let back : length xs - 1 - (length xs - 1 - k) ≡ k = omega arith in
-    (length xs - 1 - k, omega arith, get_or-reverse xs (length xs - 1 - k) layer (omega arith) ∙ ap (λ n. get_or xs n layer) back ∙ has.2)
 
 from_reverse : (xs : List KeyLayer) (layer : KeyLayer) → Contains (reverse xs) layer → Contains xs layer
 from_reverse xs layer has = subst (λ ys. Contains ys layer) (reverse-reverse xs) (in_reverse (reverse xs) layer has)

@@ -30,7 +30,7 @@ one_row key value is short = record {
   short = All-cons IsShortRow (row_of key value) [] short (All-nil IsShortRow);
 }
 
-one_is_apart : (span : KeySpan) → AreApart (span ∷ [])
+pub one_is_apart : (span : KeySpan) → AreApart (span ∷ [])
 one_is_apart span k d h = absurd (omega arith)
 
 one_span : (span : KeySpan) → IsSpan span → IsLayer (layer_of (span ∷ []) [])

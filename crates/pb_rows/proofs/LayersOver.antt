@@ -6,7 +6,7 @@ use Rattle.std.proofs.lemmas.List.Elements.{All-nil, All-head, All-tail, All-fil
 use Rattle.pb_keys.specs.Key.{IsKey}
 use Rattle.pb_keys.specs.Span.{KeySpan, IsSpan}
 use Rattle.pb_rows.specs.Layer.{KeyRow, KeyLayer, layer_of, IsLayer, IsShortRow, AreApart}
-use Rattle.pb_rows.specs.Over.{union_of, rows_over, over, over_all}
+use Rattle.pb_rows.specs.Over.{union_of, rows_over, uncovered, over, over_all}
 use Rattle.pb_rows.specs.Verdict.{Verdict, row_verdict, is_covered}
 use Rattle.pb_keys.proofs.Tests.{either_groups}
 use Rattle.pb_rows.proofs.NormalSpans.{normal_from_apart, spans_from_normal, apart_from_normal, normal-union_of, same_normal}
@@ -33,12 +33,12 @@ empty_is_layer = record {
 pub layer-over : (newer older : KeyLayer) → IsLayer newer → IsLayer older → IsLayer (over newer older)
 unfolding over
 layer-over newer older new old =
-    let bare = λ (row : KeyRow). not (is_covered newer.dels row.key) in
+    let uncovered = λ (row : KeyRow). not (is_covered newer.dels row.key) in
     let normal = normal-union_of newer.dels older.dels new.spans (normal_from_apart older.dels old.spans old.apart) in
     record {
       spans = spans_from_normal (union_of newer.dels older.dels) normal;
       apart = apart_from_normal (union_of newer.dels older.dels) normal;
-      keys = all-rows_over (λ row. IsKey row.key) newer.rows (filter bare older.rows) new.keys (All-filter bare (λ row. IsKey row.key) older.rows old.keys);
+      keys = all-rows_over (λ row. IsKey row.key) newer.rows (filter uncovered older.rows) new.keys (All-filter uncovered (λ row. IsKey row.key) older.rows old.keys);
       rise = rows_rise_over newer.dels newer.rows older.rows old.rise;
       short = short_rows newer.dels newer.rows older.rows new.short old.short;
     }
@@ -55,12 +55,8 @@ covered_groups a b c key =
     ∙ either_groups (is_covered a key) (is_covered b key) (is_covered c key)
     ∙ ap (λ t. is_covered a key || t) (sym (is_covered-union_of b c key)) ∙ sym (is_covered-union_of a (union_of b c) key)
 
--- the rows that the spans don't cover
-abbrev bare : List KeySpan → List KeyRow → List KeyRow
-bare dels rows = filter (λ row. not (is_covered dels row.key)) rows
-
-says-bare : (dels : List KeySpan) (rows : List KeyRow) (key : List ℕ) → row_verdict (bare dels rows) key ≡ cond (not (is_covered dels key)) (row_verdict rows key) None
-says-bare dels rows key = row_verdict-filter (λ k. not (is_covered dels k)) rows key
+says-uncovered : (dels : List KeySpan) (rows : List KeyRow) (key : List ℕ) → row_verdict (uncovered dels rows) key ≡ cond (not (is_covered dels key)) (row_verdict rows key) None
+says-uncovered dels rows key = row_verdict-filter (λ k. not (is_covered dels k)) rows key
 
 -- what three lists of rows say, the third and then the second covered, and grouped the other way
 three : (r s t : Verdict) (a b : Bool) → option_or (option_or r (cond (not a) s None)) (cond (not (a || b)) t None) ≡ option_or r (cond (not a) (option_or s (cond (not b) t None)) None)
@@ -68,17 +64,17 @@ three (Some answer) s t a b = refl
 three None s t true b = refl
 three None s t false b = refl
 
-verdicts_group : (a b : List KeySpan) (r s t : List KeyRow) (key : List ℕ) → row_verdict (rows_over (rows_over r (bare a s)) (bare (union_of a b) t)) key ≡ row_verdict (rows_over r (bare a (rows_over s (bare b t)))) key
+verdicts_group : (a b : List KeySpan) (r s t : List KeyRow) (key : List ℕ) → row_verdict (rows_over (rows_over r (uncovered a s)) (uncovered (union_of a b) t)) key ≡ row_verdict (rows_over r (uncovered a (rows_over s (uncovered b t)))) key
 verdicts_group a b r s t key =
-    row_verdict-rows_over (rows_over r (bare a s)) (bare (union_of a b) t) key
+    row_verdict-rows_over (rows_over r (uncovered a s)) (uncovered (union_of a b) t) key
     ∙ (λ i. option_or
-    ((row_verdict-rows_over r (bare a s) key ∙ ap (option_or (row_verdict r key)) (says-bare a s key)) i)
-    ((says-bare (union_of a b) t key ∙ ap (λ c. cond (not c) (row_verdict t key) None) (is_covered-union_of a b key)) i))
+    ((row_verdict-rows_over r (uncovered a s) key ∙ ap (option_or (row_verdict r key)) (says-uncovered a s key)) i)
+    ((says-uncovered (union_of a b) t key ∙ ap (λ c. cond (not c) (row_verdict t key) None) (is_covered-union_of a b key)) i))
     ∙ three (row_verdict r key) (row_verdict s key) (row_verdict t key) (is_covered a key) (is_covered b key)
     ∙ ap (λ found. option_or (row_verdict r key) (cond (not (is_covered a key)) found None))
-    (sym (row_verdict-rows_over s (bare b t) key ∙ ap (option_or (row_verdict s key)) (says-bare b t key)))
-    ∙ ap (option_or (row_verdict r key)) (sym (says-bare a (rows_over s (bare b t)) key))
-    ∙ sym (row_verdict-rows_over r (bare a (rows_over s (bare b t))) key)
+    (sym (row_verdict-rows_over s (uncovered b t) key ∙ ap (option_or (row_verdict s key)) (says-uncovered b t key)))
+    ∙ ap (option_or (row_verdict r key)) (sym (says-uncovered a (rows_over s (uncovered b t)) key))
+    ∙ sym (row_verdict-rows_over r (uncovered a (rows_over s (uncovered b t))) key)
 
 pub over-groups : (a b c : KeyLayer) → IsLayer a → IsLayer b → IsLayer c → over (over a b) c ≡ over a (over b c)
 unfolding over

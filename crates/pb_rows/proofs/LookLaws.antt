@@ -119,10 +119,10 @@ spans_are_parted spans prefix are apart i j d h k below =
       | inr past ↦ let same : j ≡ i = omega arith in subst (λ n. is_span_below prefix (get_or spans n d) ≡ true) same below
     ]
 
-ends_before : (span : KeySpan) (key : List ℕ) → is_span_below (prefix_of key) span ≡ true → holds_key span key ≡ false
+pub ends_before : (span : KeySpan) (key : List ℕ) → is_span_below (prefix_of key) span ≡ true → holds_key span key ≡ false
 ends_before span key h = holds_key-ends span key ∙ and_right (is_upto span.lo (prefix_of key)) (is_below (prefix_of key) span.hi) (not-true (is_below (prefix_of key) span.hi) h)
 
-begins_behind : (span : KeySpan) (key : List ℕ) → is_below (prefix_of key) span.lo ≡ true → holds_key span key ≡ false
+pub begins_behind : (span : KeySpan) (key : List ℕ) → is_below (prefix_of key) span.lo ≡ true → holds_key span key ≡ false
 begins_behind span key h = holds_key-ends span key ∙ ap (λ b. not b && is_below (prefix_of key) span.hi) h
 
 -- the spans but the one at the place that parts them hold no such key

@@ -26,9 +26,13 @@ abbrev pub rows_over : List KeyRow → List KeyRow → List KeyRow
 rows_over [] older = older
 rows_over (row ∷ newer) older = with_row row (rows_over newer older)
 
+-- the rows whose keys none of the spans holds
+abbrev pub uncovered : List KeySpan → List KeyRow → List KeyRow
+uncovered dels rows = filter (λ row. not (is_covered dels row.key)) rows
+
 -- all spans of both; the newer rows, and the older rows whose keys are neither in a newer span nor among the newer rows
 unfoldable pub over : KeyLayer → KeyLayer → KeyLayer
-over newer older = layer_of (union_of newer.dels older.dels) (rows_over newer.rows (filter (λ row. not (is_covered newer.dels row.key)) older.rows))
+over newer older = layer_of (union_of newer.dels older.dels) (rows_over newer.rows (uncovered newer.dels older.rows))
 
 -- layers put over one another, the first the newest
 abbrev pub over_all : List KeyLayer → KeyLayer

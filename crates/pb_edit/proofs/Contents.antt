@@ -1,11 +1,14 @@
 -- The content of an item that is read is the content that is spelled, and what is spelled is read again.
 use Rattle.std.proofs.Common.{◌≡◌, ℕ, List, ◌∷◌, ◌++◌, Some, refl, ap, subst, ◌∙◌, append_assoc}
+use Rattle.std.proofs.lemmas.Option.{same_Some}
+use Rattle.pb_bytes.specs.Reading.{number_split, field_split}
 use Rattle.pb_bytes.specs.Varint.{varint, field}
+use Rattle.pb_bytes.proofs.Steps.{bind_some, Splits, both_split}
 use Rattle.pb_edit.specs.Edit.{DeletedItem, PhysicalItem, VirtualItem, CreatedItem}
 use Rattle.pb_edit.specs.Grammar.{deleted_content, physical_content, virtual_content, created_content, removed_content, IsDeleted, IsPhysical, IsVirtual, IsCreated}
 use Rattle.pb_bytes.specs.Number.{IsNumber}
-use Rattle.pb_edit.specs.Reading.{ItemKind, level_at, number_at, bytes_at, deleted_at, physical_at, virtual_at, created_at, deleted_kind, physical_kind, virtual_kind, created_kind, removed_kind}
-use Rattle.pb_edit.proofs.Parts.{bind_some, same_found, Splits, both_split, number_takes, number_again, bytes_takes, bytes_again, level_takes, level_again}
+use Rattle.pb_edit.specs.Reading.{ItemKind, level_at, deleted_at, physical_at, virtual_at, created_at, deleted_kind, physical_kind, virtual_kind, created_kind, removed_kind}
+use Rattle.pb_edit.proofs.Parts.{number_takes, number_again, bytes_takes, bytes_again, level_takes, level_again}
 
 -- each content is read where it is spelled, and nowhere else
 pub record ReadsContents {X : Type 0} (kind : ItemKind X) (content : X → List ℕ) (IsItem : X → Type 0) : Type 0 where
@@ -18,11 +21,11 @@ deleted_takes : (bytes : List ℕ) (x : DeletedItem × List ℕ) → deleted_at 
 unfolding deleted_at
 deleted_takes bytes x e =
     let level = bind_some (level_at bytes) _ x e in
-    let number = bind_some (number_at level.0.1) _ x level.2 in
+    let number = bind_some (number_split level.0.1) _ x level.2 in
     let is_level = level_takes bytes level.0 level.1 in
     let is_number = number_takes level.0.1 number.0 number.1 in
     let made : DeletedItem × List ℕ = (record { level = level.0.0; number = number.0.0 }, number.0.1) in
-    subst (λ (y : DeletedItem × List ℕ). Splits bytes (deleted_content y.0) y.1 × IsDeleted y.0) (same_found made x number.2)
+    subst (λ (y : DeletedItem × List ℕ). Splits bytes (deleted_content y.0) y.1 × IsDeleted y.0) (same_Some made x number.2)
     (is_level.0 ∙ ap (λ (rest : List ℕ). level.0.0 ∷ rest) is_number.0, record { level = is_level.1; number = is_number.1 })
 
 deleted_again : (d : DeletedItem) (rest : List ℕ) → IsDeleted d → deleted_at (deleted_content d ++ rest) ≡ Some (d, rest)
@@ -38,11 +41,11 @@ physical_takes : (bytes : List ℕ) (x : PhysicalItem × List ℕ) → physical_
 unfolding physical_at
 physical_takes bytes x e =
     let level = bind_some (level_at bytes) _ x e in
-    let number = bind_some (number_at level.0.1) _ x level.2 in
-    let rank = bind_some (number_at number.0.1) _ x number.2 in
-    let size = bind_some (number_at rank.0.1) _ x rank.2 in
-    let lo = bind_some (bytes_at size.0.1) _ x size.2 in
-    let hi = bind_some (bytes_at lo.0.1) _ x lo.2 in
+    let number = bind_some (number_split level.0.1) _ x level.2 in
+    let rank = bind_some (number_split number.0.1) _ x number.2 in
+    let size = bind_some (number_split rank.0.1) _ x rank.2 in
+    let lo = bind_some (field_split size.0.1) _ x size.2 in
+    let hi = bind_some (field_split lo.0.1) _ x lo.2 in
     let is_level = level_takes bytes level.0 level.1 in
     let is_number = number_takes level.0.1 number.0 number.1 in
     let is_rank = number_takes number.0.1 rank.0 rank.1 in
@@ -55,7 +58,7 @@ physical_takes bytes x e =
     let ranked = both_split number.0.1 rank.0.1 hi.0.1 (varint rank.0.0) (varint size.0.0 ++ (field lo.0.0 ++ field hi.0.0)) is_rank.0 sized in
     let numbered = both_split level.0.1 number.0.1 hi.0.1 (varint number.0.0) (varint rank.0.0 ++ (varint size.0.0 ++ (field lo.0.0 ++ field hi.0.0))) is_number.0 ranked in
     let spelled : Splits bytes (physical_content made.0) made.1 = is_level.0 ∙ ap (λ (t : List ℕ). level.0.0 ∷ t) numbered in
-    subst (λ (y : PhysicalItem × List ℕ). Splits bytes (physical_content y.0) y.1 × IsPhysical y.0) (same_found made x hi.2)
+    subst (λ (y : PhysicalItem × List ℕ). Splits bytes (physical_content y.0) y.1 × IsPhysical y.0) (same_Some made x hi.2)
     (spelled, record { level = is_level.1; number = is_number.1; rank = is_rank.1; size = is_size.1; lo = is_lo.1; hi = is_hi.1 })
 
 physical_again : (p : PhysicalItem) (rest : List ℕ) → IsPhysical p → physical_at (physical_content p ++ rest) ≡ Some (p, rest)
@@ -80,13 +83,13 @@ virtual_takes : (bytes : List ℕ) (x : VirtualItem × List ℕ) → virtual_at 
 unfolding virtual_at
 virtual_takes bytes x e =
     let level = bind_some (level_at bytes) _ x e in
-    let number = bind_some (number_at level.0.1) _ x level.2 in
-    let rank = bind_some (number_at number.0.1) _ x number.2 in
-    let backing = bind_some (number_at rank.0.1) _ x rank.2 in
-    let lo = bind_some (bytes_at backing.0.1) _ x backing.2 in
-    let hi = bind_some (bytes_at lo.0.1) _ x lo.2 in
-    let prefix = bind_some (bytes_at hi.0.1) _ x hi.2 in
-    let suffix = bind_some (bytes_at prefix.0.1) _ x prefix.2 in
+    let number = bind_some (number_split level.0.1) _ x level.2 in
+    let rank = bind_some (number_split number.0.1) _ x number.2 in
+    let backing = bind_some (number_split rank.0.1) _ x rank.2 in
+    let lo = bind_some (field_split backing.0.1) _ x backing.2 in
+    let hi = bind_some (field_split lo.0.1) _ x lo.2 in
+    let prefix = bind_some (field_split hi.0.1) _ x hi.2 in
+    let suffix = bind_some (field_split prefix.0.1) _ x prefix.2 in
     let is_level = level_takes bytes level.0 level.1 in
     let is_number = number_takes level.0.1 number.0 number.1 in
     let is_rank = number_takes number.0.1 rank.0 rank.1 in
@@ -108,7 +111,7 @@ virtual_takes bytes x e =
     let ranked = both_split number.0.1 rank.0.1 suffix.0.1 (varint rank.0.0) s3 is_rank.0 backed in
     let numbered = both_split level.0.1 number.0.1 suffix.0.1 (varint number.0.0) s2 is_number.0 ranked in
     let spelled : Splits bytes (virtual_content made.0) made.1 = is_level.0 ∙ ap (λ (t : List ℕ). level.0.0 ∷ t) numbered in
-    subst (λ (y : VirtualItem × List ℕ). Splits bytes (virtual_content y.0) y.1 × IsVirtual y.0) (same_found made x suffix.2)
+    subst (λ (y : VirtualItem × List ℕ). Splits bytes (virtual_content y.0) y.1 × IsVirtual y.0) (same_Some made x suffix.2)
     (spelled, record { level = is_level.1; number = is_number.1; rank = is_rank.1; backing = is_backing.1; lo = is_lo.1; hi = is_hi.1; prefix = is_prefix.1; suffix = is_suffix.1 })
 
 virtual_again : (v : VirtualItem) (rest : List ℕ) → IsVirtual v → virtual_at (virtual_content v ++ rest) ≡ Some (v, rest)
@@ -140,13 +143,13 @@ virtual_reads = record { takes = virtual_takes; again = virtual_again }
 created_takes : (bytes : List ℕ) (x : CreatedItem × List ℕ) → created_at bytes ≡ Some x → Splits bytes (created_content x.0) x.1 × IsCreated x.0
 unfolding created_at
 created_takes bytes x e =
-    let number = bind_some (number_at bytes) _ x e in
-    let size = bind_some (number_at number.0.1) _ x number.2 in
+    let number = bind_some (number_split bytes) _ x e in
+    let size = bind_some (number_split number.0.1) _ x number.2 in
     let is_number = number_takes bytes number.0 number.1 in
     let is_size = number_takes number.0.1 size.0 size.1 in
     let made : CreatedItem × List ℕ = (record { number = number.0.0; size = size.0.0 }, size.0.1) in
     let spelled = both_split bytes number.0.1 size.0.1 (varint number.0.0) (varint size.0.0) is_number.0 is_size.0 in
-    subst (λ (y : CreatedItem × List ℕ). Splits bytes (created_content y.0) y.1 × IsCreated y.0) (same_found made x size.2)
+    subst (λ (y : CreatedItem × List ℕ). Splits bytes (created_content y.0) y.1 × IsCreated y.0) (same_Some made x size.2)
     (spelled, record { number = is_number.1; size = is_size.1 })
 
 created_again : (c : CreatedItem) (rest : List ℕ) → IsCreated c → created_at (created_content c ++ rest) ≡ Some (c, rest)

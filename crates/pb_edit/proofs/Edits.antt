@@ -3,12 +3,13 @@ use Rattle.std.proofs.Common.{◌≡◌, ℕ, ◌<◌, cond, eqb, List, [], ◌�
 use Rattle.std.specs.Prelude.{IfSome, nat_lt}
 use Rattle.std.proofs.lemmas.Bool.{eqb-true}
 use Rattle.std.proofs.lemmas.List.{append-nil, nil_from_length}
-use Rattle.std.proofs.lemmas.Option.{cond_some}
+use Rattle.std.proofs.lemmas.Option.{cond_some, same_Some}
 use Rattle.pb_edit.specs.Edit.{VersionEdit}
 use Rattle.pb_edit.specs.Grammar.{number_item, items, deleted_content, physical_content, virtual_content, created_content, removed_content, numbers_spelling, lists_spelling, edit_spelling, IsDeleted, IsPhysical, IsVirtual, IsCreated, deleted_below, physical_below, virtual_below, created_below, AreItems, IsEdit}
 use Rattle.pb_bytes.specs.Number.{IsNumber}
-use Rattle.pb_edit.specs.Reading.{◌>>=◌, optional_at, all_at, deleted_kind, physical_kind, virtual_kind, created_kind, removed_kind, numbers_at, lists_at, edit_at}
-use Rattle.pb_edit.proofs.Parts.{bind_some, same_found, Splits, both_split}
+use Rattle.pb_bytes.specs.Reading.{◌>>=◌}
+use Rattle.pb_bytes.proofs.Steps.{bind_some, Splits, both_split}
+use Rattle.pb_edit.specs.Reading.{optional_at, all_at, deleted_kind, physical_kind, virtual_kind, created_kind, removed_kind, numbers_at, lists_at, edit_at}
 use Rattle.pb_edit.proofs.Contents.{deleted_reads, physical_reads, virtual_reads, created_reads, removed_reads}
 use Rattle.pb_edit.proofs.Lists.{StartsAbove, StartsAbove-number, StartsAbove-items, optional_takes, optional_again, all_takes, all_again}
 
@@ -46,7 +47,7 @@ numbers_takes bytes x e =
     let from2 = both_split accepted.0.1 next.0.1 format.0.1 (number_item 2 next.0.0) s3 is_next.0 from3 in
     let from1 = both_split bytes accepted.0.1 format.0.1 (number_item 1 accepted.0.0) s2 is_accepted.0 from2 in
     let made : VersionEdit × List ℕ = (record { accepted = accepted.0.0; next = next.0.0; log = log.0.0; flushed = flushed.0.0; format = format.0.0; deleted = []; physical = []; virtuals = []; created = []; removed = [] }, format.0.1) in
-    subst (λ (y : VersionEdit × List ℕ). Splits bytes (numbers_spelling y.0) y.1 × AreNumbers y.0) (same_found made x format.2)
+    subst (λ (y : VersionEdit × List ℕ). Splits bytes (numbers_spelling y.0) y.1 × AreNumbers y.0) (same_Some made x format.2)
     (from1, record { accepted = is_accepted.1; next = is_next.1; log = is_log.1; flushed = is_flushed.1; format = is_format.1 })
 
 numbers_again : (e : VersionEdit) (rest : List ℕ) → AreNumbers e → StartsAbove 5 rest → StartsAbove 4 rest → StartsAbove 3 rest → StartsAbove 2 rest → StartsAbove 1 rest → numbers_at (numbers_spelling e ++ rest) ≡ Some (numbers_of e, rest)
@@ -113,7 +114,7 @@ lists_takes numbers bytes x e =
       },
       removed.0.1,
     ) in
-    subst (λ (y : VersionEdit × List ℕ). ReadLists numbers bytes y) (same_found made x removed.2)
+    subst (λ (y : VersionEdit × List ℕ). ReadLists numbers bytes y) (same_Some made x removed.2)
     (record { spelled = from6; lists = record { deleted = are_deleted.1; physical = are_physical.1; virtuals = are_virtual.1; created = are_created.1; removed = are_removed.1 }; same = refl })
 
 lists_again : (e : VersionEdit) → AreLists e → lists_at (numbers_of e) (lists_spelling e) ≡ Some (e, [])
@@ -221,4 +222,4 @@ edit_off bytes off e is spelled =
 
 -- no spelling is that of two edits
 pub one_edit : (a b : VersionEdit) → IsEdit a → IsEdit b → edit_spelling a ≡ edit_spelling b → a ≡ b
-one_edit a b is_a is_b same = same_found a b (sym (edit_again a is_a) ∙ ap edit_at same ∙ edit_again b is_b)
+one_edit a b is_a is_b same = same_Some a b (sym (edit_again a is_a) ∙ ap edit_at same ∙ edit_again b is_b)

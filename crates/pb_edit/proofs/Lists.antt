@@ -4,12 +4,14 @@ use Rattle.std.specs.Prelude.{IfSome}
 use Rattle.std.specs.List.{AllByRecursion}
 use Rattle.std.specs.Option.{option_to_list}
 use Rattle.std.proofs.lemmas.Bool.{cases_Bool, eqb-true, eq-eqb, ne_eqb}
-use Rattle.std.proofs.lemmas.Option.{cond_some}
+use Rattle.std.proofs.lemmas.Option.{cond_some, same_Some}
+use Rattle.pb_bytes.specs.Reading.{◌>>=◌, number_split}
 use Rattle.pb_bytes.specs.Varint.{varint}
+use Rattle.pb_bytes.proofs.Steps.{bind_some, Splits, both_split}
 use Rattle.pb_edit.specs.Grammar.{number_item, items, Ascend, AreItems}
 use Rattle.pb_bytes.specs.Number.{IsNumber}
-use Rattle.pb_edit.specs.Reading.{◌>>=◌, ItemKind, begins, content_from, may_follow, content_behind, items_at, all_at, number_at, optional_at}
-use Rattle.pb_edit.proofs.Parts.{bind_some, same_found, Splits, both_split, number_takes, number_again}
+use Rattle.pb_edit.specs.Reading.{ItemKind, begins, content_from, may_follow, content_behind, items_at, all_at, optional_at}
+use Rattle.pb_edit.proofs.Parts.{number_takes, number_again}
 use Rattle.pb_edit.proofs.Contents.{ReadsContents}
 use Rattle.pb_edit.proofs.Loops.{no_items, first_item}
 
@@ -35,18 +37,18 @@ headed byte kind rest spelled same is = λ i. same i ∷ is i
 
 pub optional_takes : (kind : ℕ) (bytes : List ℕ) (x : Option ℕ × List ℕ) → optional_at kind bytes ≡ Some x → Splits bytes (number_item kind x.0) x.1 × IfSome x.0 IsNumber
 unfolding optional_at
-optional_takes kind [] x e = subst (λ (y : Option ℕ × List ℕ). Splits [] (number_item kind y.0) y.1 × IfSome y.0 IsNumber) (same_found (None, []) x e) (refl, tt)
+optional_takes kind [] x e = subst (λ (y : Option ℕ × List ℕ). Splits [] (number_item kind y.0) y.1 × IfSome y.0 IsNumber) (same_Some (None, []) x e) (refl, tt)
 optional_takes kind (byte ∷ rest) x e =
     elim (cases_Bool (eqb byte kind)) [
       | inl same ↦
-          let number = bind_some (number_at rest) (λ number. Some (Some number.0, number.1)) x (rw same at e) in
+          let number = bind_some (number_split rest) (λ number. Some (Some number.0, number.1)) x (rw same at e) in
           let is_number = number_takes rest number.0 number.1 in
           let made : Option ℕ × List ℕ = (Some number.0.0, number.0.1) in
           let here : byte ∷ rest ≡ kind ∷ (varint number.0.0 ++ number.0.1) = headed byte kind rest (varint number.0.0 ++ number.0.1) (eqb-true byte kind same) is_number.0 in
-          subst (λ (y : Option ℕ × List ℕ). Splits (byte ∷ rest) (number_item kind y.0) y.1 × IfSome y.0 IsNumber) (same_found made x number.2) (here, is_number.1)
+          subst (λ (y : Option ℕ × List ℕ). Splits (byte ∷ rest) (number_item kind y.0) y.1 × IfSome y.0 IsNumber) (same_Some made x number.2) (here, is_number.1)
       | inr other ↦
           let none : ◌≡◌ {A = Option (Option ℕ × List ℕ)} (Some (None, byte ∷ rest)) (Some x) = rw other at e in
-          subst (λ (y : Option ℕ × List ℕ). Splits (byte ∷ rest) (number_item kind y.0) y.1 × IfSome y.0 IsNumber) (same_found (None, byte ∷ rest) x none) (refl, tt)
+          subst (λ (y : Option ℕ × List ℕ). Splits (byte ∷ rest) (number_item kind y.0) y.1 × IfSome y.0 IsNumber) (same_Some (None, byte ∷ rest) x none) (refl, tt)
     ]
 
 pub optional_again : (kind : ℕ) (number : Option ℕ) (rest : List ℕ) → IfSome number IsNumber → StartsAbove kind rest → optional_at kind (number_item kind number ++ rest) ≡ Some (number, rest)
@@ -80,7 +82,7 @@ pub items_takes : {X : Type 0} (kind : ItemKind X) (content : X → List ℕ) (I
     → items_at kind most last bytes ≡ Some read → Splits bytes (items kind.byte content read.0) read.1 × FollowItems kind IsItem last read.0
 unfolding items_at
 items_takes {X = X} kind content IsItem reads most last [] read e =
-    subst (λ (y : List X × List ℕ). Splits [] (items kind.byte content y.0) y.1 × FollowItems kind IsItem last y.0) (same_found ([], []) read e) (refl, none_follow kind IsItem last)
+    subst (λ (y : List X × List ℕ). Splits [] (items kind.byte content y.0) y.1 × FollowItems kind IsItem last y.0) (same_Some ([], []) read e) (refl, none_follow kind IsItem last)
 items_takes {X = X} kind content IsItem reads zero last (byte ∷ rest) read e =
     elim (cases_Bool (begins kind byte)) [
       | inl here ↦
@@ -88,7 +90,7 @@ items_takes {X = X} kind content IsItem reads zero last (byte ∷ rest) read e =
           absurd (cc)
       | inr other ↦
           let none : ◌≡◌ {A = Option (List X × List ℕ)} (Some ([], byte ∷ rest)) (Some read) = rw other at e in
-          subst (λ (y : List X × List ℕ). Splits (byte ∷ rest) (items kind.byte content y.0) y.1 × FollowItems kind IsItem last y.0) (same_found ([], byte ∷ rest) read none) (refl, none_follow kind IsItem last)
+          subst (λ (y : List X × List ℕ). Splits (byte ∷ rest) (items kind.byte content y.0) y.1 × FollowItems kind IsItem last y.0) (same_Some ([], byte ∷ rest) read none) (refl, none_follow kind IsItem last)
     ]
 items_takes {X = X} kind content IsItem reads (suc most) last (byte ∷ rest) read e =
     elim (cases_Bool (begins kind byte)) [
@@ -105,11 +107,11 @@ items_takes {X = X} kind content IsItem reads (suc most) last (byte ∷ rest) re
           let spelled : Splits (byte ∷ rest) (items kind.byte content made.0) made.1 =
           headed byte kind.byte rest ((content first.0.0 ++ items kind.byte content others.0.0) ++ others.0.1) (eqb-true byte kind.byte here)
           (both_split rest first.0.1 others.0.1 (content first.0.0) (items kind.byte content others.0.0) is_item.0 are_others.0) in
-          subst (λ (y : List X × List ℕ). Splits (byte ∷ rest) (items kind.byte content y.0) y.1 × FollowItems kind IsItem last y.0) (same_found made read others.2)
+          subst (λ (y : List X × List ℕ). Splits (byte ∷ rest) (items kind.byte content y.0) y.1 × FollowItems kind IsItem last y.0) (same_Some made read others.2)
           (spelled, record { each = (is_item.1, are_others.1.each); ascend = ascend_more kind last first.0.0 others.0.0 first_follows are_others.1.ascend })
       | inr other ↦
           let none : ◌≡◌ {A = Option (List X × List ℕ)} (Some ([], byte ∷ rest)) (Some read) = rw other at e in
-          subst (λ (y : List X × List ℕ). Splits (byte ∷ rest) (items kind.byte content y.0) y.1 × FollowItems kind IsItem last y.0) (same_found ([], byte ∷ rest) read none) (refl, none_follow kind IsItem last)
+          subst (λ (y : List X × List ℕ). Splits (byte ∷ rest) (items kind.byte content y.0) y.1 × FollowItems kind IsItem last y.0) (same_Some ([], byte ∷ rest) read none) (refl, none_follow kind IsItem last)
     ]
 
 -- no item begins where a later kind does

@@ -3,9 +3,10 @@ use Rattle.std.proofs.Common.{◌≡◌, ℕ, zero, suc, ◌+◌, ◌-◌, ◌<�
 use Rattle.std.proofs.lemmas.Option.{cond_some}
 use Rattle.std.proofs.lemmas.List.{append-nil}
 use Rattle.std.specs.List.{slice_get}
+use Rattle.pb_bytes.specs.Reading.{◌>>=◌}
 use Rattle.pb_edit.specs.declared.read.ReadError.{ReadError}
 use Rattle.pb_edit.specs.declared.read.ReadError.TheVariants.{Off, NoMemory}
-use Rattle.pb_edit.specs.Reading.{◌>>=◌, Gives, ItemKind, begins, content_from, content_behind, last_of, items_at, all_at}
+use Rattle.pb_edit.specs.Reading.{Gives, ItemKind, begins, content_from, content_behind, last_of, items_at, all_at}
 
 -- what was read before, and what is still read
 abbrev pub with_front : {X : Type 0} → List X → Option (List X × List ℕ) → Option (List X × List ℕ)

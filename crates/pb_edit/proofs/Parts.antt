@@ -1,46 +1,29 @@
 -- A part that is read is the part that is spelled, and what is spelled is read again.
-use Rattle.std.proofs.Common.{◌≡◌, ℕ, ◌+◌, ◌^◌, ◌<◌, ltb, leb, List, [], ◌∷◌, ◌++◌, length, take, drop, Option, Some, None, refl, sym, ap, subst, ◌∙◌, append_assoc, arith}
+use Rattle.std.proofs.Common.{◌≡◌, ℕ, ◌+◌, ◌^◌, ◌<◌, ltb, leb, List, [], ◌∷◌, ◌++◌, length, take, drop, Some, refl, ap, subst, ◌∙◌, arith}
+use Rattle.std.specs.Prelude.{option_and_then}
 use Rattle.std.proofs.lemmas.Bool.{lt-ltb, ltb-true, le-leb, leb-true}
 use Rattle.std.proofs.lemmas.List.{drop_at, length-take}
 use Rattle.std.proofs.lemmas.Option.{cond_some, option_and_then_some}
-use Rattle.pb_bytes.specs.Reading.{varint_at, if_within, field_at}
+use Rattle.pb_bytes.specs.Reading.{varint_at, if_below, if_within, field_at, behind, number_split, field_split}
 use Rattle.pb_bytes.specs.Varint.{varint, field}
 use Rattle.pb_bytes.proofs.ReadingLemmas.{Begins-rest, varint_at-varint, varint_at-some, field_at-field, field_at-some}
+use Rattle.pb_bytes.proofs.Steps.{split_some, Splits}
 use Rattle.pb_edit.specs.Grammar.{IsLevel, IsField}
 use Rattle.pb_bytes.specs.Number.{IsNumber}
-use Rattle.pb_edit.specs.Reading.{◌>>=◌, number_at, bytes_at, level_at}
-
--- a step that found something
-pub bind_some : {A B : Type 0} (read : Option A) (f : A → Option B) (y : B) → (read >>= f) ≡ Some y → (x : A) × (read ≡ Some x) × (f x ≡ Some y)
-bind_some (Some x) f y e = (x, refl, e)
-bind_some None f y e = absurd cc
-
-abbrev found : {A : Type 0} → A → Option A
-found x = Some x
-
-pub same_found : {A : Type 0} (x y : A) → found x ≡ found y → x ≡ y
-same_found x y e = cc
-
--- bytes that begin with this spelling, behind which the rest stands
-abbrev pub Splits : List ℕ → List ℕ → List ℕ → Type 0
-Splits bytes spelling rest = bytes ≡ spelling ++ rest
-
--- two spellings, one behind the other
-pub both_split : (bytes middle rest a b : List ℕ) → Splits bytes a middle → Splits middle b rest → Splits bytes (a ++ b) rest
-both_split bytes middle rest a b front back = front ∙ ap (λ (t : List ℕ). a ++ t) back ∙ sym (append_assoc a b rest)
+use Rattle.pb_edit.specs.Reading.{level_at}
 
 -- ---- numbers
 
-pub number_takes : (bytes : List ℕ) (x : ℕ × List ℕ) → number_at bytes ≡ Some x → Splits bytes (varint x.0) x.1 × IsNumber x.0
-unfolding number_at
+pub number_takes : (bytes : List ℕ) (x : ℕ × List ℕ) → number_split bytes ≡ Some x → Splits bytes (varint x.0) x.1 × IsNumber x.0
 number_takes bytes x e =
-    let a = bind_some (varint_at bytes) _ x e in
-    let parts = cond_some (ltb a.0.0 (2 ^ 62)) (a.0.0, drop a.0.1 bytes) x a.2 in
-    let begins = (varint_at-some bytes a.0.0 a.0.1 a.1).begins in
-    subst (λ (y : ℕ × List ℕ). Splits bytes (varint y.0) y.1 × IsNumber y.0) parts.1 (Begins-rest bytes (varint a.0.0) a.0.1 begins, ltb-true a.0.0 (2 ^ 62) parts.0)
+    let y = split_some bytes (option_and_then (if_below (2 ^ 62)) (varint_at bytes)) x e in
+    option_and_then_some (if_below (2 ^ 62)) (varint_at bytes) y.0 y.1 (λ read found kept.
+    let parts = cond_some (ltb read.0 (2 ^ 62)) read y.0 kept in
+    let begins = (varint_at-some bytes read.0 read.1 found).begins in
+    subst (λ (z : ℕ × List ℕ). Splits bytes (varint z.0) z.1 × IsNumber z.0) (ap (behind bytes) parts.1 ∙ y.2)
+    (Begins-rest bytes (varint read.0) read.1 begins, ltb-true read.0 (2 ^ 62) parts.0))
 
-pub number_again : (n : ℕ) (rest : List ℕ) → IsNumber n → number_at (varint n ++ rest) ≡ Some (n, rest)
-unfolding number_at
+pub number_again : (n : ℕ) (rest : List ℕ) → IsNumber n → number_split (varint n ++ rest) ≡ Some (n, rest)
 number_again n rest below =
     let fits : n < 2 ^ 64 = omega arith in
     rw (varint_at-varint n rest fits, lt-ltb n (2 ^ 62) below, drop_at (varint n) rest (length (varint n)) refl) refl
@@ -56,16 +39,13 @@ field_short bytes content used e =
     let below = (varint_at-some bytes read.0 read.1 found).below in
     rw (← is_content) (omega (arith, length-take read.0 (drop read.1 bytes))))
 
-pub bytes_takes : (bytes : List ℕ) (x : List ℕ × List ℕ) → bytes_at bytes ≡ Some x → Splits bytes (field x.0) x.1 × IsField x.0
-unfolding bytes_at
+pub bytes_takes : (bytes : List ℕ) (x : List ℕ × List ℕ) → field_split bytes ≡ Some x → Splits bytes (field x.0) x.1 × IsField x.0
 bytes_takes bytes x e =
-    let a = bind_some (field_at bytes) _ x e in
-    let made : List ℕ × List ℕ = (a.0.0, drop a.0.1 bytes) in
-    subst (λ (y : List ℕ × List ℕ). Splits bytes (field y.0) y.1 × IsField y.0) (same_found made x a.2)
-    (Begins-rest bytes (field a.0.0) a.0.1 (field_at-some bytes a.0.0 a.0.1 a.1), field_short bytes a.0.0 a.0.1 a.1)
+    let y = split_some bytes (field_at bytes) x e in
+    subst (λ (z : List ℕ × List ℕ). Splits bytes (field z.0) z.1 × IsField z.0) y.2
+    (Begins-rest bytes (field y.0.0) y.0.1 (field_at-some bytes y.0.0 y.0.1 y.1), field_short bytes y.0.0 y.0.1 y.1)
 
-pub bytes_again : (content rest : List ℕ) → IsField content → bytes_at (field content ++ rest) ≡ Some (content, rest)
-unfolding bytes_at
+pub bytes_again : (content rest : List ℕ) → IsField content → field_split (field content ++ rest) ≡ Some (content, rest)
 bytes_again content rest short = rw (field_at-field content rest short, drop_at (field content) rest (length (field content)) refl) refl
 
 -- ---- levels

@@ -1,16 +1,11 @@
 -- Reading an edit from left to right: what begins bytes, and the bytes behind it.
-use Rattle.std.specs.Prelude.{◌≡◌, ℕ, zero, suc, ◌^◌, ◌-◌, List, [], ◌∷◌, length, drop, Bool, true, ◌==◌, nat_lt, nat_le, if◌then◌else◌, Option, Some, None, Result, Ok, Err}
+use Rattle.std.specs.Prelude.{◌≡◌, ℕ, zero, suc, ◌-◌, List, [], ◌∷◌, length, Bool, true, ◌==◌, nat_lt, nat_le, if◌then◌else◌, Option, Some, None, Result, Ok, Err}
 use Rattle.std.specs.List.{slice_get}
-use Rattle.pb_bytes.specs.Reading.{varint_at, field_at}
+use Rattle.pb_bytes.specs.Reading.{◌>>=◌, number_split, field_split}
 use Rattle.pb_edit.specs.declared.read.ReadError.{ReadError}
 use Rattle.pb_edit.specs.declared.read.ReadError.TheVariants.{Off, NoMemory}
 use Rattle.pb_edit.specs.Edit.{DeletedItem, PhysicalItem, VirtualItem, CreatedItem, VersionEdit}
 use Rattle.pb_edit.specs.Grammar.{deleted_below, physical_below, virtual_below, created_below}
-
-infixl 10 ◌>>=◌
-abbrev pub ◌>>=◌ : {A B : Type 0} → Option A → (A → Option B) → Option B
-(Some x) >>= f = f x
-None >>= f = None
 
 -- what a function answered, seen by view, is what reading gives, unless memory ran out
 abbrev pub Gives : {X Y : Type 0} → (X → Y) → Result X ReadError → Option Y → Type 0
@@ -19,17 +14,6 @@ Gives view (Err Off) read = read ≡ None
 Gives view (Err NoMemory) read = Unit {0}
 
 -- ---- parts of an item
-
--- below 2^62
-unfoldable pub number_at : List ℕ → Option (ℕ × List ℕ)
-number_at bytes = do
-  read ← varint_at bytes
-  if nat_lt read.0 (2 ^ 62) then Some (read.0, drop read.1 bytes) else None
-
-unfoldable pub bytes_at : List ℕ → Option (List ℕ × List ℕ)
-bytes_at bytes = do
-  read ← field_at bytes
-  Some (read.0, drop read.1 bytes)
 
 unfoldable pub level_at : List ℕ → Option (ℕ × List ℕ)
 level_at [] = None
@@ -40,35 +24,35 @@ level_at (level ∷ rest) = if nat_le level 6 then Some (level, rest) else None
 unfoldable pub deleted_at : List ℕ → Option (DeletedItem × List ℕ)
 deleted_at bytes = do
   level ← level_at bytes
-  number ← number_at level.1
+  number ← number_split level.1
   Some (record { level = level.0; number = number.0 }, number.1)
 
 unfoldable pub physical_at : List ℕ → Option (PhysicalItem × List ℕ)
 physical_at bytes = do
   level ← level_at bytes
-  number ← number_at level.1
-  rank ← number_at number.1
-  size ← number_at rank.1
-  lo ← bytes_at size.1
-  hi ← bytes_at lo.1
+  number ← number_split level.1
+  rank ← number_split number.1
+  size ← number_split rank.1
+  lo ← field_split size.1
+  hi ← field_split lo.1
   Some (record { level = level.0; number = number.0; rank = rank.0; size = size.0; lo = lo.0; hi = hi.0 }, hi.1)
 
 unfoldable pub virtual_at : List ℕ → Option (VirtualItem × List ℕ)
 virtual_at bytes = do
   level ← level_at bytes
-  number ← number_at level.1
-  rank ← number_at number.1
-  backing ← number_at rank.1
-  lo ← bytes_at backing.1
-  hi ← bytes_at lo.1
-  prefix ← bytes_at hi.1
-  suffix ← bytes_at prefix.1
+  number ← number_split level.1
+  rank ← number_split number.1
+  backing ← number_split rank.1
+  lo ← field_split backing.1
+  hi ← field_split lo.1
+  prefix ← field_split hi.1
+  suffix ← field_split prefix.1
   Some (record { level = level.0; number = number.0; rank = rank.0; backing = backing.0; lo = lo.0; hi = hi.0; prefix = prefix.0; suffix = suffix.0 }, suffix.1)
 
 unfoldable pub created_at : List ℕ → Option (CreatedItem × List ℕ)
 created_at bytes = do
-  number ← number_at bytes
-  size ← number_at number.1
+  number ← number_split bytes
+  size ← number_split number.1
   Some (record { number = number.0; size = size.0 }, size.1)
 
 -- ---- numbers and lists of an edit
@@ -76,7 +60,7 @@ created_at bytes = do
 -- the number of this kind, where its item begins the bytes
 unfoldable pub optional_at : ℕ → List ℕ → Option (Option ℕ × List ℕ)
 optional_at kind [] = Some (None, [])
-optional_at kind (byte ∷ rest) = if byte == kind then (number_at rest >>= λ number. Some (Some number.0, number.1)) else Some (None, byte ∷ rest)
+optional_at kind (byte ∷ rest) = if byte == kind then (number_split rest >>= λ number. Some (Some number.0, number.1)) else Some (None, byte ∷ rest)
 
 -- a kind of items: its byte, how its content is read, and which item stands below which
 pub record ItemKind (X : Type 0) : Type 0 where
@@ -130,7 +114,7 @@ abbrev pub created_kind : ItemKind CreatedItem
 created_kind = record { byte = 9; content_at = created_at; is_below = created_below }
 
 abbrev pub removed_kind : ItemKind ℕ
-removed_kind = record { byte = 10; content_at = number_at; is_below = nat_lt }
+removed_kind = record { byte = 10; content_at = number_split; is_below = nat_lt }
 
 -- ---- an edit
 

@@ -1,8 +1,9 @@
 ghost use Rattle.std.specs.Prelude.{◌≤◌, IfOk, length};
-ghost use Rattle.pb_edit.specs.Reading.{Gives, number_at, bytes_at, level_at, optional_at};
+ghost use Rattle.pb_bytes.specs.Reading.{number_split, field_split};
+ghost use Rattle.pb_edit.specs.Reading.{Gives, level_at, optional_at};
 
 use super::LAST_LEVEL;
-use pb_bytes::{NUMBERS, read_field, read_varint};
+use pb_bytes::{split_field, split_number};
 use pb_keys::Bytes;
 use std::alloc::{AllocError, AllocFailed, Global};
 
@@ -37,31 +38,24 @@ impl<T: Drop> From<AllocFailed<T>> for ReadError {
 }
 
 /// The number that begins these bytes, and what stands behind it.
-#[tactic(auto, unfolding(crate::specs::Reading::number_at))]
 pub(crate) fn number_of(from: &[u8]) -> Result<(u64, &[u8]), ReadError>
-    ensures exact { Gives (λ read. (read.0, read.1.now)) result (number_at from.now) }
+    ensures exact { Gives (λ read. (read.0, read.1.now)) result (number_split from.now) }
     ensures shorter { IfOk result (λ read. length read.1.now ≤ length from.now) }
 {
-    let Some((number, used)) = read_varint(from) else {
+    let Some((number, rest)) = split_number(from) else {
         return Err(ReadError::Off);
     };
-    if number >= NUMBERS {
-        return Err(ReadError::Off);
-    }
-    let (_, rest) = from.split_at(used);
     Ok((number, rest))
 }
 
 /// A copy of the bytes of the field that begins these bytes, and what stands behind it.
-#[tactic(auto, unfolding(crate::specs::Reading::bytes_at))]
 pub(crate) fn bytes_of(alloc: Global, from: &[u8]) -> Result<(Bytes, &[u8]), ReadError>
-    ensures exact { Gives (λ read. (read.0, read.1.now)) result (bytes_at from.now) }
+    ensures exact { Gives (λ read. (read.0, read.1.now)) result (field_split from.now) }
     ensures shorter { IfOk result (λ read. length read.1.now ≤ length from.now) }
 {
-    let Some((content, used)) = read_field(from) else {
+    let Some((content, rest)) = split_field(from) else {
         return Err(ReadError::Off);
     };
-    let (_, rest) = from.split_at(used);
     let bytes = Bytes::new(alloc, content)?;
     Ok((bytes, rest))
 }

@@ -10,13 +10,13 @@ use Rattle.std.proofs.lemmas.List.Elements.{All-nil, All-cons, All-head, All-tai
 use Rattle.std.proofs.lemmas.Option.{cond_some, none-some}
 use Rattle.pb_bytes.specs.BigEndian.{be32, number_of, AreBytes}
 use Rattle.pb_bytes.proofs.BigEndianLemmas.{length-be32, be32-number_of, number_of-be32}
+use Rattle.pb_bytes.proofs.Steps.{bind_some}
 use Rattle.pb_keys.specs.Key.{IsKey, key_cmp, at_sign, suffix_start}
 use Rattle.pb_keys.specs.Value.{IsValue}
 use Rattle.pb_block.specs.Blocks.{BlockRow, shared_at, entry_spelling, entries_from, entries, restarts_from, restarts, block_spelling}
 use Rattle.pb_block.specs.Blocks.{Rise, before_last, IsBlock}
 use Rattle.pb_block.specs.Reading.{all_behind, start_of, checks, parts_at, block_at}
 use Rattle.pb_block.specs.Held.{IsHeld}
-use Rattle.pb_block.proofs.Steps.{bind_some}
 use Rattle.pb_block.specs.Runs.{IsRun}
 use Rattle.pb_block.proofs.Checks.{IsChecked, checks_takes, checks_again, rows_again, entry_some}
 

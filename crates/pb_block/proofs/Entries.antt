@@ -2,18 +2,18 @@
 use Rattle.std.proofs.Common.{◌≡◌, ℕ, zero, suc, ◌+◌, ◌^◌, ◌<◌, ◌≤◌, leb, Bool, true, false, cond, List, [], ◌++◌, length, take, drop}
 use Rattle.std.proofs.Common.{Option, Some, None, refl, sym, ap, subst, ◌∙◌, append_assoc, length-append, arith}
 use Rattle.std.specs.Prelude.{IfSome}
-use Rattle.std.specs.Option.{unwrap_or, option_map}
+use Rattle.std.specs.Option.{unwrap_or}
 use Rattle.std.proofs.lemmas.Bool.{le-leb, leb-true}
 use Rattle.std.proofs.lemmas.List.{take_at, drop_at, length-take-le, take-append-drop}
-use Rattle.std.proofs.lemmas.Option.{cond_some}
+use Rattle.std.proofs.lemmas.Option.{cond_some, same_Some}
 use Rattle.pb_bytes.specs.Varint.{varint}
-use Rattle.pb_bytes.specs.Reading.{varint_at, varint_split, behind}
+use Rattle.pb_bytes.specs.Reading.{varint_at, varint_split}
+use Rattle.pb_bytes.proofs.Steps.{bind_some, split_some, Splits, both_split}
 use Rattle.pb_bytes.proofs.ReadingLemmas.{Begins-rest, varint_at-varint, varint_at-some}
 use Rattle.pb_bytes.proofs.VarintLemmas.{length-varint_pos}
 use Rattle.pb_keys.specs.Value.{IsValue}
 use Rattle.pb_block.specs.Blocks.{value_number}
 use Rattle.pb_block.specs.Reading.{Entry, unshared_at, value_at, entry_at}
-use Rattle.pb_block.proofs.Steps.{bind_some, same_found, Splits, both_split}
 
 pub some_behind : {A : Type 0} (b : Bool) (o : Option A) (y : A) → cond b o None ≡ Some y → (b ≡ true) × (o ≡ Some y)
 some_behind true o y e = (refl, e)
@@ -24,11 +24,6 @@ none_or None h = refl
 none_or (Some x) h = absurd (h x refl)
 
 -- ---- varints
-
-split_some : (bytes : List ℕ) (read : Option (ℕ × ℕ)) (x : ℕ × List ℕ) → option_map (behind bytes) read ≡ Some x
-    → (y : ℕ × ℕ) × (read ≡ Some y) × (behind bytes y ≡ x)
-split_some bytes None x e = absurd cc
-split_some bytes (Some y) x e = (y, refl, same_found (behind bytes y) x e)
 
 pub varint_takes : (bytes : List ℕ) (x : ℕ × List ℕ) → varint_split bytes ≡ Some x → Splits bytes (varint x.0) x.1
 varint_takes bytes x e =
@@ -83,7 +78,7 @@ pub record IsRead (number : ℕ) (bytes : List ℕ) (x : Option (List ℕ) × Li
 pub value_takes : (number : ℕ) (bytes : List ℕ) (x : Option (List ℕ) × List ℕ) → value_at number bytes ≡ Some x → IsRead number bytes x
 unfolding value_at
 value_takes zero bytes x e =
-    subst (λ (y : Option (List ℕ) × List ℕ). IsRead zero bytes y) (same_found (None, bytes) x e)
+    subst (λ (y : Option (List ℕ) × List ℕ). IsRead zero bytes y) (same_Some (None, bytes) x e)
     (record { is_number = refl; spelled = refl })
 value_takes (suc len) bytes x e =
     let a = cond_some (leb len (length bytes)) (Some (take len bytes), drop len bytes) x e in
@@ -139,7 +134,7 @@ entry_takes before bytes x e =
     let whole = both_split bytes shared.0.1 value.0.1 (varint shared.0.0)
     (varint len.0.0 ++ (varint number.0.0 ++ (unshared.0.0 ++ unwrap_or value.0.0 []))) is_shared sized in
     let same_len : len.0.0 ≡ length unshared.0.0 = sym is_unshared.is_len in
-    subst (λ (y : Entry × List ℕ). IsEntry before bytes y) (same_found made x value.2) (record {
+    subst (λ (y : Entry × List ℕ). IsEntry before bytes y) (same_Some made x value.2) (record {
       shared = is_unshared.is_shared;
       within = subst (λ (n : ℕ). shared.0.0 + n ≤ 1024) same_len is_unshared.within;
       spelled = subst (λ (n : ℕ). Splits bytes

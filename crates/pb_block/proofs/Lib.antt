@@ -1,4 +1,3 @@
-pub mod Steps
 pub mod Entries
 pub mod Keys
 pub mod Runs

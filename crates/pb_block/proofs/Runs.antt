@@ -12,6 +12,7 @@ use Rattle.std.proofs.lemmas.List.Sums.{common_prefix_len-le}
 use Rattle.std.proofs.lemmas.Option.{cond_some}
 use Rattle.std.proofs.lemmas.Slice.Eq.{bytes_eq-Decides}
 use Rattle.pb_bytes.specs.BigEndian.{be32}
+use Rattle.pb_bytes.proofs.Steps.{bind_some}
 use Rattle.pb_keys.specs.Key.{is_key, key_cmp}
 use Rattle.pb_keys.specs.Value.{IsValue}
 use Rattle.pb_keys.proofs.Forms.{key_says, key_tests, value_is}
@@ -20,7 +21,6 @@ use Rattle.pb_block.specs.Blocks.{BlockRow, shared_at, entry_spelling}
 use Rattle.pb_block.specs.Reading.{Entry, key_behind, row_behind, entry_at, Place, stripped, restarts_behind, is_short, may_follow}
 use Rattle.pb_block.specs.Reading.{may_stand, place_behind, next_place, step}
 use Rattle.pb_block.specs.Runs.{Stands}
-use Rattle.pb_block.proofs.Steps.{bind_some}
 use Rattle.pb_block.proofs.Entries.{some_behind, spelled_entry, IsEntry, entry_takes, CanStand, entry_again, entry_shorter}
 
 -- ---- a step, taken apart and put together

@@ -5,15 +5,10 @@ use Rattle.std.specs.Option.{unwrap_or, option_map}
 use Rattle.std.specs.Ordering.{is_lt}
 use Rattle.std.specs.Cmp.Lexicographic.{pointwise}
 use Rattle.pb_bytes.specs.BigEndian.{be32, number_of}
-use Rattle.pb_bytes.specs.Reading.{varint_split}
+use Rattle.pb_bytes.specs.Reading.{◌>>=◌, varint_split}
 use Rattle.pb_keys.specs.Key.{is_key, is_key_length, key_cmp}
 use Rattle.pb_keys.specs.Value.{is_value}
 use Rattle.pb_block.specs.Blocks.{BlockRow, shared_at}
-
-infixl 10 ◌>>=◌
-abbrev pub ◌>>=◌ : {A B : Type 0} → Option A → (A → Option B) → Option B
-(Some x) >>= f = f x
-None >>= f = None
 
 -- ---- one entry
 

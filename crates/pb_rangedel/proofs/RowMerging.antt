@@ -11,10 +11,10 @@ use Rattle.std.specs.FinMap.Entries.{by_order}
 use Rattle.pb_keys.specs.Key.{key_cmp}
 use Rattle.pb_keys.specs.KeyLaws.{key_cmp_exact}
 use Rattle.pb_keys.specs.Span.{KeySpan}
-use Rattle.pb_rangedel.specs.Merging.{uncovered, rest_of, hides_row, IsStep, IsNext, step_for}
+use Rattle.pb_rangedel.specs.Merging.{rest_of, hides_row, IsStep, IsNext, step_for}
 use Rattle.pb_rangedel.specs.declared.rows.Step.TheVariants.{Newer, Older, Skip}
 use Rattle.pb_rows.specs.Layer.{KeyRow, Rise}
-use Rattle.pb_rows.specs.Over.{with_row, rows_over}
+use Rattle.pb_rows.specs.Over.{with_row, rows_over, uncovered}
 use Rattle.pb_rows.specs.Verdict.{is_covered}
 use Rattle.pb_rows.proofs.RowsOver.{Follow, Rising, rising_from_rise, rise_from_rising, rising-drop, chained, all-rows_over, turned_greater, turned_less}
 

@@ -1,17 +1,13 @@
 -- The merge of newer rows and older rows, step by step.
-use Rattle.std.specs.Prelude.{◌≡◌, ℕ, ◌+◌, ◌<◌, List, [], ◌∷◌, length, not, filter, drop, slice_index_or, Option, Some, None, Bool, false}
+use Rattle.std.specs.Prelude.{◌≡◌, ℕ, ◌+◌, ◌<◌, List, [], ◌∷◌, length, drop, slice_index_or, Option, Some, None, Bool, false}
 use Rattle.std.specs.FinMap.Entries.{by_order}
 use Rattle.pb_keys.specs.Key.{key_cmp}
 use Rattle.pb_keys.specs.Span.{KeySpan}
 use Rattle.pb_rangedel.specs.declared.rows.Step.{Step}
 use Rattle.pb_rangedel.specs.declared.rows.Step.TheVariants.{Newer, Older, Skip}
 use Rattle.pb_rows.specs.Layer.{KeyRow}
-use Rattle.pb_rows.specs.Over.{rows_over}
+use Rattle.pb_rows.specs.Over.{rows_over, uncovered}
 use Rattle.pb_rows.specs.Verdict.{is_covered}
-
--- the rows whose keys none of the spans holds
-abbrev pub uncovered : List KeySpan → List KeyRow → List KeyRow
-uncovered dels rows = filter (λ row. not (is_covered dels row.key)) rows
 
 -- what is still to be written at these places of both lists
 abbrev pub rest_of : List KeySpan → List KeyRow → List KeyRow → ℕ → ℕ → List KeyRow

@@ -2,10 +2,10 @@ ghost use Rattle.std.specs.Prelude.{◌≡◌, ℕ, ◌++◌, List, All, IfOk, O
 ghost use Rattle.std.specs.List.{slice_get};
 ghost use Rattle.pb_keys.specs.Key.{prefix_of};
 ghost use Rattle.pb_keys.specs.Span.{IsSpan};
-ghost use Rattle.pb_rangedel.specs.Merging.{uncovered, hides_row, IsNext, step_for};
+ghost use Rattle.pb_rangedel.specs.Merging.{hides_row, IsNext, step_for};
 ghost use Rattle.pb_rangedel.specs.Spans.{EndUpto};
 ghost use Rattle.pb_rows.specs.Layer.{KeyRow, AreApart, Rise};
-ghost use Rattle.pb_rows.specs.Over.{rows_over};
+ghost use Rattle.pb_rows.specs.Over.{rows_over, uncovered};
 ghost use Rattle.pb_rows.specs.Verdict.{is_covered};
 
 use pb_keys::{Key, Span};

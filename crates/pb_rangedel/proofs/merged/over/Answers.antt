@@ -1,8 +1,7 @@
 use Rattle.std.proofs.Common.{◌≡◌, sym, ◌∙◌, subst}
-use Rattle.pb_rangedel.specs.Merging.{uncovered}
 use Rattle.pb_rows.proofs.LayersOver.{layer-over}
 use Rattle.pb_rows.specs.Layer.{AreApart, IsLayer, layer_of}
-use Rattle.pb_rows.specs.Over.{over, union_of, rows_over}
+use Rattle.pb_rows.specs.Over.{over, union_of, rows_over, uncovered}
 use Rattle.pb_rangedel.proofs.merged.over.Goals as goal
 
 pub from_parts-requires : goal.from_parts-requires

@@ -1,5 +1,5 @@
-use Rattle.std.proofs.Common.{◌≡◌, ◌≤◌, ◌<◌, length, get_or, true, false, sym, ap, ◌∙◌, arith, nat_lt, ℕ}
-use Rattle.std.proofs.lemmas.Bool.Decides.{nat_tests}
+use Rattle.std.proofs.Common.{◌≡◌, ◌≤◌, ◌<◌, length, get_or, true, false, sym, ap, ◌∙◌, arith}
+use Rattle.std.proofs.lemmas.Bool.{le-ltb}
 use Rattle.std.proofs.lemmas.List.{get_or_default}
 use Rattle.pb_keys.specs.Key.{prefix_of}
 use Rattle.pb_keys.specs.Order.{is_upto}
@@ -16,9 +16,6 @@ loop-at-preserved c =
     let test : is_upto span.hi (prefix_of c.args.key.now) ≡ true =
     (λ i. is_upto (sym c.hi.ensures.value i) (sym c.prefix-prefix.ensures.value i)) ∙ sym (c.le.ensures ∙ le-is_upto c.hi.result.now c.prefix-prefix.result.now) ∙ c.if-le.true in
     end_more (prefix_of c.args.key.now) c.args.dels.now c.loop-at.at span c.loop-at.invariant (omega arith) c.index-dels-at.is test
-
-past_end : (a n : ℕ) → n ≤ a → nat_lt a n ≡ false
-past_end a n h = grind (arith, nat_tests)
 
 pub returns-then-at-dels-clause-answer : goal.returns-then-at-dels-clause-answer
 returns-then-at-dels-clause-answer c =
@@ -42,5 +39,5 @@ returns-else-at-dels-clause-answer c =
     let key = c.args.key.now in
     let at = c.loop-at.at in
     let past : length dels ≤ at = omega arith in
-    past_end at (length dels) past
+    le-ltb at (length dels) past
     ∙ sym (covered_nowhere dels key at c.requires.in_form c.requires.apart (passed_part (prefix_of key) dels at c.requires.in_form c.requires.apart c.loop-at.invariant (λ h d. absurd (omega arith))) past)

@@ -1,9 +1,9 @@
 use Rattle.std.proofs.Common.{◌≡◌, ◌+◌, ◌-◌, ◌<◌, ◌≤◌, ◌++◌, length, get_or}
 use Rattle.pb_keys.specs.Key.{prefix_of}
-use Rattle.pb_rangedel.specs.Merging.{uncovered, rest_of}
+use Rattle.pb_rangedel.specs.Merging.{rest_of}
 use Rattle.pb_rangedel.specs.Spans.{EndUpto}
 use Rattle.pb_rows.specs.Layer.{KeyRow}
-use Rattle.pb_rows.specs.Over.{rows_over}
+use Rattle.pb_rows.specs.Over.{rows_over, uncovered}
 use Rattle.pb_rangedel.proofs.rows.merge.Given as goal
 
 abbrev pub invariant-loop-step : goal.invariant-loop-step

@@ -4,11 +4,10 @@ use Rattle.std.specs.Prelude.{filter}
 use Rattle.std.proofs.lemmas.List.{map-append}
 use Rattle.pb_keys.specs.Span.{KeySpan}
 use Rattle.pb_memtable.specs.View.{all_changing, layer_of_all, size_of}
-use Rattle.pb_rangedel.specs.Merging.{uncovered}
 use Rattle.pb_rows.specs.Changing.{Changing}
 use Rattle.pb_rows.specs.ChangingLayers.{layer_of_changing, layer_of_changes, with_changes}
 use Rattle.pb_rows.specs.Layer.{KeyRow, KeyLayer, IsFilled, layer_of}
-use Rattle.pb_rows.specs.Over.{over, with_row, with_span}
+use Rattle.pb_rows.specs.Over.{over, with_row, with_span, uncovered}
 use Rattle.pb_rows.proofs.CommandLaws.{last_over_others}
 use Rattle.pb_rows.proofs.FilledLaws.{filled-over}
 use Rattle.pb_wal.specs.Changes.{changing_of, length_of_changing}

@@ -4,7 +4,7 @@ use Rattle.std.specs.Prelude.{All, not, ◌&&◌}
 use Rattle.std.specs.List.{list_any}
 use Rattle.std.specs.List.Sorted.{IsPartitionPoint}
 use Rattle.std.specs.declared.cmp.Ordering.TheVariants.{Less}
-use Rattle.std.proofs.lemmas.Bool.{cases_lt, not-true, not-false}
+use Rattle.std.proofs.lemmas.Bool.{and_right, cases_lt, not-true, not-false}
 use Rattle.std.proofs.lemmas.List.{get_or_default}
 use Rattle.std.proofs.lemmas.List.Folds.{list_any_none, list_any_at}
 use Rattle.pb_keys.specs.Key.{prefix_of, key_cmp}
@@ -13,32 +13,22 @@ use Rattle.pb_keys.specs.Span.{KeySpan, IsSpan, holds_key, overlap}
 use Rattle.pb_keys.proofs.KeyFacts.{prefixes_ascend}
 use Rattle.pb_keys.proofs.OrderFacts.{below_chain, upto_chain, below_one_way}
 use Rattle.pb_keys.proofs.SpanFacts.{holds_key-ends, overlap-ends}
+use Rattle.pb_keys.proofs.Tests.{second_is_false}
 use Rattle.pb_memtable.specs.Search.{IsPlaceOf}
 use Rattle.pb_memtable.proofs.Placing.{prefix_below, prefix_not_below}
 use Rattle.pb_rows.specs.Layer.{KeyRow, AreApart, Rise}
-use Rattle.pb_rows.proofs.LookLaws.{rows_rise, is_span_below, spans_apart}
+use Rattle.pb_rows.proofs.LookLaws.{rows_rise, is_span_below, spans_apart, begins_behind}
 
 out_of_first : (a b : Bool) → a ≡ true → (not a && b) ≡ false
 out_of_first true b h = refl
 out_of_first false b h = cc
 
-out_of_second : (a b : Bool) → b ≡ false → (a && b) ≡ false
-out_of_second true b h = h
-out_of_second false b h = refl
-
 second_fails : (a b : Bool) → (not a && b) ≡ false → a ≡ false → b ≡ false
 second_fails true b h k = cc
 second_fails false b h k = h
 
-second_is_false : (a b : Bool) → (a && b) ≡ false → a ≡ true → b ≡ false
-second_is_false true b h k = h
-second_is_false false b h k = cc
-
-pub held_before : (span : KeySpan) (key : List ℕ) → is_below (prefix_of key) span.lo ≡ true → holds_key span key ≡ false
-held_before span key h = holds_key-ends span key ∙ out_of_first (is_below (prefix_of key) span.lo) (is_below (prefix_of key) span.hi) h
-
 pub held_behind : (span : KeySpan) (key : List ℕ) → is_below (prefix_of key) span.hi ≡ false → holds_key span key ≡ false
-held_behind span key h = holds_key-ends span key ∙ out_of_second (not (is_below (prefix_of key) span.lo)) (is_below (prefix_of key) span.hi) h
+held_behind span key h = holds_key-ends span key ∙ and_right (not (is_below (prefix_of key) span.lo)) (is_below (prefix_of key) span.hi) h
 
 pub row_within_here : (rows : List KeyRow) (span : KeySpan) (at : ℕ) (r : KeyRow) → Rise rows → IsSpan span → IsPlaceOf span.lo rows at → at < length rows → r ≡ get_or rows at r → holds_key span r.key ≡ list_any (λ row. holds_key span row.key) rows
 row_within_here rows span at r rise is place within r_is =
@@ -48,7 +38,7 @@ row_within_here rows span at r rise is place within r_is =
       | false ↦ λ e. sym (list_any_none p rows (λ k d h.
           let here : (f : KeyRow) → get_or rows at f ≡ r = λ f. get_or_default rows at f r within ∙ sym r_is in
           elim (cases_lt k at) [
-            | inl before ↦ held_before span (get_or rows k d).key (prefix_below rows span.lo at is.lo place k d before)
+            | inl before ↦ begins_behind span (get_or rows k d).key (prefix_below rows span.lo at is.lo place k d before)
             | inr upto ↦ elim (cases_lt at k) [
               | inl after ↦
                   let from : is_below (prefix_of r.key) span.lo ≡ false = subst (λ row. is_below (prefix_of row.key) span.lo ≡ false) (here d) (prefix_not_below rows span.lo at is.lo place at d (omega arith) within) in
@@ -64,7 +54,7 @@ row_within_here rows span at r rise is place within r_is =
 
 pub row_within_nowhere : (rows : List KeyRow) (span : KeySpan) (at : ℕ) → IsSpan span → IsPlaceOf span.lo rows at → length rows ≤ at → list_any (λ row. holds_key span row.key) rows ≡ false
 row_within_nowhere rows span at is place past =
-    list_any_none (λ row. holds_key span row.key) rows (λ k d h. held_before span (get_or rows k d).key (prefix_below rows span.lo at is.lo place k d (omega arith)))
+    list_any_none (λ row. holds_key span row.key) rows (λ k d h. begins_behind span (get_or rows k d).key (prefix_below rows span.lo at is.lo place k d (omega arith)))
 
 -- ---- deletions
 
@@ -72,7 +62,7 @@ pub apart_before : (span del : KeySpan) → is_span_below span.lo del ≡ true �
 apart_before span del h = overlap-ends span del ∙ ap (λ b. b && is_below del.lo span.hi) (not-true (is_below span.lo del.hi) h)
 
 pub apart_behind : (span del : KeySpan) → is_below del.lo span.hi ≡ false → overlap span del ≡ false
-apart_behind span del h = overlap-ends span del ∙ out_of_second (is_below span.lo del.hi) (is_below del.lo span.hi) h
+apart_behind span del h = overlap-ends span del ∙ and_right (is_below span.lo del.hi) (is_below del.lo span.hi) h
 
 pub overlap_here : (dels : List KeySpan) (span : KeySpan) (at : ℕ) (s : KeySpan) → All IsSpan dels → AreApart dels → IsPartitionPoint (λ d. is_span_below span.lo d ≡ true) (λ d. is_span_below span.lo d ≡ false) dels at → at < length dels → s ≡ get_or dels at s → overlap span s ≡ list_any (λ del. overlap span del) dels
 overlap_here dels span at s are apart parted within s_is =

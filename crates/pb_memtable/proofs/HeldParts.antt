@@ -10,14 +10,15 @@ use Rattle.std.proofs.lemmas.List.Edits.{split_between, get_or-between, length-b
 use Rattle.std.proofs.lemmas.List.Elements.{All-head, All-tail, filter-append}
 use Rattle.pb_keys.specs.Order.{is_below}
 use Rattle.pb_keys.specs.Span.{KeySpan, IsSpan, holds_key}
+use Rattle.pb_keys.proofs.Lists.{filter_all, filter_none}
 use Rattle.pb_keys.proofs.OrderFacts.{below_chain, below_upto}
 use Rattle.pb_keys.proofs.SpanFacts.{holds_key-ends}
 use Rattle.pb_memtable.specs.Search.{AreOverlapped, AreWithin, change_at, row_of_change, rows_at}
-use Rattle.pb_memtable.proofs.Covering.{held_before, held_behind}
-use Rattle.pb_memtable.proofs.Placing.{filter_all, filter_none, prefix_below, prefix_not_below}
+use Rattle.pb_memtable.proofs.Covering.{held_behind}
+use Rattle.pb_memtable.proofs.Placing.{prefix_below, prefix_not_below}
 use Rattle.pb_rows.specs.Layer.{KeyRow, KeyLayer, AreApart, Rise}
 use Rattle.pb_rows.specs.Viewed.{bounded, cut_to, part_within, plain_view, viewed}
-use Rattle.pb_rows.proofs.LookLaws.{is_span_below, spans_follow}
+use Rattle.pb_rows.proofs.LookLaws.{is_span_below, spans_follow, begins_behind}
 use Rattle.pb_rows.proofs.Parts.{no_part_before, no_part_behind}
 use Rattle.pb_rows.proofs.RowsOver.{rising_from_rise, rise_from_rising, rising-filter}
 use Rattle.pb_rows.proofs.ViewLaws.{mapped-plain_view}
@@ -40,7 +41,7 @@ rows-held rows span from to are =
     let len : length (take from rows) ≡ from = length-take-le from rows are.starts.within in
     let here : k < from = omega arith in
     subst (λ row. p row ≡ false) (sym (get_or-take from rows k d here))
-    (held_before span (get_or rows k d).key (prefix_below rows span.lo from is.lo are.starts k d here))) in
+    (begins_behind span (get_or rows k d).key (prefix_below rows span.lo from is.lo are.starts k d here))) in
     let middle : filter p (between from to rows) ≡ between from to rows = filter_all p (between from to rows) (λ k d h.
     let len : length (between from to rows) ≡ to - from = length-between rows from to to_within in
     let here : from + k < to = omega arith in

@@ -8,12 +8,11 @@ use Rattle.pb_memtable.specs.Index.{IsIndex}
 use Rattle.pb_memtable.specs.Search.{change_at, row_of_change, rows_at, IsRow, IsRowPlace}
 use Rattle.pb_memtable.specs.View.{layer_of_all}
 use Rattle.pb_memtable.proofs.CommandLaws.{changes-push, over-row, over-span}
-use Rattle.pb_rangedel.specs.Merging.{uncovered}
 use Rattle.pb_rows.proofs.NormalSpans.{normal_from_apart, spans_from_normal, apart_from_normal, normal-union_of}
 use Rattle.pb_rows.proofs.RowsOver.{rising_from_rise, rise_from_rising, rising-with_row, rising-filter}
 use Rattle.pb_rows.specs.ChangingLayers.{layer_of_changing}
 use Rattle.pb_rows.specs.Layer.{KeyRow, KeyLayer, AreApart, Rise, layer_of}
-use Rattle.pb_rows.specs.Over.{over, with_row, with_span}
+use Rattle.pb_rows.specs.Over.{over, with_row, with_span, uncovered}
 use Rattle.pb_rows.specs.Verdict.{is_covered}
 use Rattle.pb_wal.specs.Changes.{HasShortValue, changing_of}
 use Rattle.pb_wal.specs.declared.entry.Change.{Change}

@@ -9,7 +9,8 @@ use Rattle.std.proofs.lemmas.List.Edits.{split_between, get_or-between, length-b
 use Rattle.std.proofs.lemmas.List.Elements.{All-head, All-tail}
 use Rattle.pb_keys.specs.Order.{is_below, lesser, greater}
 use Rattle.pb_keys.specs.Span.{KeySpan, IsSpan, joined}
-use Rattle.pb_keys.proofs.OrderFacts.{below_itself, below_one_way, below_chain, upto_chain}
+use Rattle.pb_keys.proofs.OrderFacts.{below_one_way, below_chain, upto_chain}
+use Rattle.pb_keys.proofs.SpanFacts.{lesser_upto, upto_greater}
 use Rattle.pb_memtable.specs.Joining.{IsTouched, Touch}
 use Rattle.pb_rows.specs.Layer.{AreApart}
 use Rattle.pb_rows.specs.Over.{with_span}
@@ -20,25 +21,11 @@ abbrev pub joined_all : KeySpan → List KeySpan → KeySpan
 joined_all s [] = s
 joined_all s (t ∷ ts) = joined_all (joined s t) ts
 
-greater_upto : (a b : List ℕ) → is_below (greater a b) a ≡ false
-greater_upto a b =
-    elim (is_below a b) as (λ t. is_below a b ≡ t → is_below (cond t b a) a ≡ false) [
-      | true ↦ λ e. below_one_way a b e
-      | false ↦ λ e. below_itself a
-    ] refl
-
-lesser_upto : (a b : List ℕ) → is_below a (lesser a b) ≡ false
-lesser_upto a b =
-    elim (is_below b a) as (λ t. is_below b a ≡ t → is_below a (cond t b a) ≡ false) [
-      | true ↦ λ e. below_one_way b a e
-      | false ↦ λ e. below_itself a
-    ] refl
-
 -- what touches a span touches a longer one
 touch_more : (s t u : KeySpan) → Touch s u → Touch (joined s t) u
 touch_more s t u touch = record {
   front = upto_chain (lesser s.lo t.lo) s.lo u.hi (lesser_upto s.lo t.lo) touch.front;
-  back = upto_chain u.lo s.hi (greater s.hi t.hi) touch.back (greater_upto s.hi t.hi);
+  back = upto_chain u.lo s.hi (greater s.hi t.hi) touch.back (upto_greater s.hi t.hi);
 }
 
 touched_more : (s t : KeySpan) (us : List KeySpan) → All (Touch s) us → All (Touch (joined s t)) us

@@ -1,5 +1,5 @@
 -- A row in its place, and the rows that a span holds.
-use Rattle.std.proofs.Common.{◌≡◌, ℕ, suc, ◌+◌, ◌-◌, ◌<◌, ◌≤◌, List, [], ◌∷◌, ◌++◌, length, get_or, set, take, drop, Bool, true, false, cond, refl, sym, ap, ◌∙◌, subst, arith, inl, inr}
+use Rattle.std.proofs.Common.{◌≡◌, ℕ, suc, ◌+◌, ◌-◌, ◌<◌, ◌≤◌, List, [], ◌∷◌, ◌++◌, length, get_or, set, take, drop, Bool, true, false, refl, sym, ap, ◌∙◌, subst, arith, inl, inr}
 use Rattle.std.specs.Prelude.{All, filter, not, ◌&&◌, ◌||◌}
 use Rattle.std.specs.List.{insert, between}
 use Rattle.std.specs.Cmp.{tied_itself}
@@ -17,24 +17,19 @@ use Rattle.pb_keys.specs.KeyLaws.{key_cmp_total, key_cmp_exact}
 use Rattle.pb_keys.specs.Order.{bytes_cmp, is_below}
 use Rattle.pb_keys.specs.Span.{KeySpan, IsSpan, IsEnd, holds_key}
 use Rattle.pb_keys.proofs.KeyFacts.{suffix_start_is}
-use Rattle.pb_keys.proofs.OrderFacts.{below_chain}
+use Rattle.pb_keys.proofs.Lists.{filter_all, filter_none}
+use Rattle.pb_keys.proofs.OrderFacts.{below_chain, less}
 use Rattle.pb_keys.proofs.SpanFacts.{holds_key-ends}
 use Rattle.pb_memtable.specs.Search.{IsPlaceOf, IsRowPlace, IsRow, change_at, row_of_change, rows_at}
 use Rattle.pb_memtable.proofs.IndexLaws.{change_new, place_more, place_new, rows_more}
-use Rattle.pb_rangedel.specs.Merging.{uncovered}
 use Rattle.pb_rows.proofs.NormalSpans.{end_is_prefix}
 use Rattle.pb_rangedel.proofs.RowMerging.{front_row, drop_follows}
 use Rattle.pb_rows.proofs.RowsOver.{turned_greater, turned_less}
 use Rattle.pb_rows.specs.Layer.{KeyRow, Rise}
-use Rattle.pb_rows.specs.Over.{with_row}
+use Rattle.pb_rows.specs.Over.{with_row, uncovered}
 use Rattle.pb_wal.specs.declared.entry.Change.{Change}
 
 -- ---- a row put among others
-
-is_less : (o : Ordering) → is_lt o ≡ true → o ≡ Less
-is_less Less h = refl
-is_less Equal h = cc
-is_less Greater h = cc
 
 with_row_behind : (row : KeyRow) (front rest : List KeyRow) → All (λ r. key_cmp row.key r.key ≡ Greater) front → with_row row (front ++ rest) ≡ front ++ with_row row rest
 with_row_behind row [] rest below = refl
@@ -48,7 +43,7 @@ front_below row rows at place k d h =
     let len : length (take at rows) ≡ at = length-take-le at rows place.within in
     let here : k < at = omega arith in
     subst (λ r. key_cmp row.key r.key ≡ Greater) (sym (get_or-take at rows k d here))
-    (turned_less (get_or rows k d).key row.key (is_less (key_cmp (get_or rows k d).key row.key) (place.parted.0 k d (omega (arith, place.within)) here)))
+    (turned_less (get_or rows k d).key row.key (less (key_cmp (get_or rows k d).key row.key) (place.parted.0 k d (omega (arith, place.within)) here)))
 
 -- where no row has the key
 pub with_row-inserted : (row : KeyRow) (rows : List KeyRow) (at : ℕ) (d : KeyRow) → Rise rows → IsPlaceOf row.key rows at → (at < length rows → (get_or rows at d).key ≡ row.key → ⊥) → with_row row rows ≡ insert rows at row
@@ -135,14 +130,6 @@ prefix_below rows bytes at is place k d h = sym (below_end (get_or rows k d).key
 
 pub prefix_not_below : (rows : List KeyRow) (bytes : List ℕ) (at : ℕ) → IsEnd bytes → IsPlaceOf bytes rows at → (k : ℕ) (d : KeyRow) → at ≤ k → k < length rows → is_below (prefix_of (get_or rows k d).key) bytes ≡ false
 prefix_not_below rows bytes at is place k d h within = sym (below_end (get_or rows k d).key bytes is) ∙ place.parted.1 k d h within
-
-pub filter_all : (p : KeyRow → Bool) (rows : List KeyRow) → All (λ r. p r ≡ true) rows → filter p rows ≡ rows
-filter_all p [] all = refl
-filter_all p (r ∷ rows) all = (λ i. cond (All-head (λ s. p s ≡ true) r rows all i) (r ∷ filter p rows) (filter p rows)) ∙ ap (λ rs. r ∷ rs) (filter_all p rows (All-tail (λ s. p s ≡ true) r rows all))
-
-pub filter_none : (p : KeyRow → Bool) (rows : List KeyRow) → All (λ r. p r ≡ false) rows → filter p rows ≡ []
-filter_none p [] all = refl
-filter_none p (r ∷ rows) all = (λ i. cond (All-head (λ s. p s ≡ false) r rows all i) (r ∷ filter p rows) (filter p rows)) ∙ filter_none p rows (All-tail (λ s. p s ≡ false) r rows all)
 
 behind_both : (a b : Bool) → a ≡ true → not (not a && b) ≡ true
 behind_both true b h = refl

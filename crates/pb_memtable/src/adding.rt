@@ -4,9 +4,8 @@ ghost use Rattle.pb_memtable.specs.Index.{IsIndex};
 ghost use Rattle.pb_memtable.specs.Joining.{RoomHolds, room_of};
 ghost use Rattle.pb_memtable.specs.Search.{IsRow, IsRowPlace, row_of_change, rows_at};
 ghost use Rattle.pb_memtable.specs.View.{IsReserved};
-ghost use Rattle.pb_rangedel.specs.Merging.{uncovered};
 ghost use Rattle.pb_rows.specs.Layer.{Rise};
-ghost use Rattle.pb_rows.specs.Over.{with_row};
+ghost use Rattle.pb_rows.specs.Over.{with_row, uncovered};
 ghost use Rattle.pb_wal.specs.declared.entry.Change.{Change};
 
 use super::ranges::remove_range;

@@ -1,5 +1,5 @@
 use Rattle.std.proofs.Common.{◌<◌, ◌≤◌, length, get_or, sym, ap, ◌∙◌, arith}
-use Rattle.pb_memtable.proofs.Bits.{past_end}
+use Rattle.std.proofs.lemmas.Bool.{le-ltb}
 use Rattle.pb_keys.specs.Span.{holds_key}
 use Rattle.pb_memtable.specs.Search.{change_at, row_of_change, rows_at}
 use Rattle.pb_memtable.proofs.Covering.{row_within_here, row_within_nowhere}
@@ -28,4 +28,4 @@ returns-else-at-places c =
     let place = c.place_of-at.ensures span.lo (c.lo.ensures.value ∙ sym (end_is_prefix span.lo is.lo)) (sym (end_without_suffix span.lo is.lo)) in
     let past : length places ≤ at = omega arith in
     let rows_past : length (rows_at changes places) ≤ at = omega (arith, length-rows_at changes places) in
-    past_end at (length places) past ∙ sym (row_within_nowhere (rows_at changes places) span at is place rows_past)
+    le-ltb at (length places) past ∙ sym (row_within_nowhere (rows_at changes places) span at is place rows_past)

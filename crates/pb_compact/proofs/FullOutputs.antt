@@ -7,6 +7,7 @@ use Rattle.std.proofs.lemmas.List.Elements.{All-append, All-cons, All-head, All-
 use Rattle.pb_keys.specs.Key.{IsKey, prefix_of}
 use Rattle.pb_keys.specs.Order.{is_below}
 use Rattle.pb_keys.specs.Span.{KeySpan, span_of, holds_key}
+use Rattle.pb_keys.proofs.Lists.{filter_all, filter_none}
 use Rattle.pb_keys.proofs.OrderFacts.{below_chain, below_itself, same_bytes, upto_below, upto_chain}
 use Rattle.pb_keys.proofs.SpanFacts.{holds_key-ends}
 use Rattle.pb_rows.specs.Hull.{span_at}
@@ -23,18 +24,6 @@ use Rattle.pb_compact.proofs.LayersCut.{rows_within}
 use Rattle.pb_compact.proofs.OutputLaws.{by_hull}
 
 -- ---- lists
-
-passing : (p : KeyRow → Bool) (rows : List KeyRow) → All (λ r. p r ≡ true) rows → filter p rows ≡ rows
-passing p [] all = refl
-passing p (row ∷ rows) all =
-    ap (λ b. cond b (row ∷ filter p rows) (filter p rows)) (All-head (λ r. p r ≡ true) row rows all)
-    ∙ ap (λ rs. row ∷ rs) (passing p rows (All-tail (λ r. p r ≡ true) row rows all))
-
-failing : (p : KeyRow → Bool) (rows : List KeyRow) → All (λ r. p r ≡ false) rows → filter p rows ≡ []
-failing p [] none = refl
-failing p (row ∷ rows) none =
-    ap (λ b. cond b (row ∷ filter p rows) (filter p rows)) (All-head (λ r. p r ≡ false) row rows none)
-    ∙ failing p rows (All-tail (λ r. p r ≡ false) row rows none)
 
 sizes-append : (xs ys : List KeyRow) → sizes_of (xs ++ ys) ≡ sizes_of xs + sizes_of ys
 sizes-append [] ys = omega arith
@@ -67,11 +56,11 @@ since_held : (all before seen rows : List KeyRow) (sum : ℕ) (lo last hi : List
     → All (λ r. is_row_below hi r ≡ false) rows → filter (λ r. holds_key (span_of lo hi) r.key) all ≡ seen
 since_held all before seen rows sum lo last hi since rises behind =
     let held = λ (r : KeyRow). holds_key (span_of lo hi) r.key in
-    let front = failing held before (λ k d h. held_is lo hi (get_or before k d) true _ (since.lower k d h) refl) in
-    let middle = passing held seen (λ k d h.
+    let front = filter_none held before (λ k d h. held_is lo hi (get_or before k d) true _ (since.lower k d h) refl) in
+    let middle = filter_all held seen (λ k d h.
     held_is lo hi (get_or seen k d) false true (since.from k d h)
     (upto_below (prefix_of (get_or seen k d).key) last hi (since.upto k d h) rises)) in
-    let back = failing held rows (λ k d h.
+    let back = filter_none held rows (λ k d h.
     held_is lo hi (get_or rows k d) (is_row_below lo (get_or rows k d)) false refl (behind k d h)
     ∙ and_none (not (is_row_below lo (get_or rows k d)))) in
     ap (filter held) since.whole ∙ filter-append held before (seen ++ rows)
@@ -99,7 +88,7 @@ at_point all before seen rows row sum lo last since rises =
       last_is = refl;
       start = below_itself prefix;
       sum_is = omega arith;
-      low = subst (λ (rs : List KeyRow). sizes_of rs < full_output) (sym (failing (is_row_below prefix) (row ∷ [])
+      low = subst (λ (rs : List KeyRow). sizes_of rs < full_output) (sym (filter_none (is_row_below prefix) (row ∷ [])
           (All-cons (λ r. is_row_below prefix r ≡ false) row [] (below_itself prefix) (All-nil (λ r. is_row_below prefix r ≡ false)))))
           (omega arith);
     }
@@ -112,7 +101,7 @@ low_on : (seen : List KeyRow) (row : KeyRow) (sum : ℕ) (last : List ℕ) → s
     → sizes_of (filter (is_row_below (prefix_of row.key)) (seen ++ row ∷ [])) < full_output
 low_on seen row sum last is low upto from none =
     let prefix = prefix_of row.key in
-    let end : filter (is_row_below prefix) (row ∷ []) ≡ [] = failing (is_row_below prefix) (row ∷ [])
+    let end : filter (is_row_below prefix) (row ∷ []) ≡ [] = filter_none (is_row_below prefix) (row ∷ [])
     (All-cons (λ r. is_row_below prefix r ≡ false) row [] (below_itself prefix) (All-nil (λ r. is_row_below prefix r ≡ false))) in
     let parts : filter (is_row_below prefix) (seen ++ row ∷ []) ≡ filter (is_row_below prefix) seen =
     filter-append (is_row_below prefix) seen (row ∷ []) ∙ ap (λ rs. filter (is_row_below prefix) seen ++ rs) end
@@ -122,7 +111,7 @@ low_on seen row sum last is low upto from none =
       | true ↦ λ e.
           let fits : nat_le full_output sum ≡ false = first_fails (nat_le full_output sum) (is_below last prefix) e none in
           let few : sum < full_output = leb-false full_output sum fits in
-          let same = passing (is_row_below prefix) seen
+          let same = filter_all (is_row_below prefix) seen
           (λ k d h. upto_below (prefix_of (get_or seen k d).key) last prefix (upto k d h) e) in
           subst (λ (rs : List KeyRow). sizes_of rs < full_output) (sym same) (subst (λ n. n < full_output) (sym is) few)
       | false ↦ λ e. subst (λ (p : List ℕ). sizes_of (filter (is_row_below p) seen) < full_output) (same_bytes last prefix e from) low
@@ -226,7 +215,7 @@ from_start layer hull (row ∷ rows) same rising keys within =
       last_is = refl;
       start = here.lo;
       sum_is = omega arith;
-      low = subst (λ (rs : List KeyRow). sizes_of rs < full_output) (sym (failing (is_row_below prefix) (row ∷ []) none)) (omega arith);
+      low = subst (λ (rs : List KeyRow). sizes_of rs < full_output) (sym (filter_none (is_row_below prefix) (row ∷ []) none)) (omega arith);
     }) rising.1 (rows_go hull row rows rising.0 (All-tail (λ r. IsKey r.key) row rows keys) (All-tail P row rows within))
 
 pub outputs_are_full : (layer : KeyLayer) → IsLayer layer → (k : ℕ) (d : KeyLayer) → k + 1 < length (outputs_of layer)

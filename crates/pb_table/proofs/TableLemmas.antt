@@ -1,5 +1,5 @@
 -- A table's bytes spell one layer.
-use Rattle.std.proofs.Common.{◌≡◌, ℕ, ◌+◌, ◌<◌, ◌^◌, List, [], ◌∷◌, ◌++◌, length, refl, sym, ap, ◌∙◌, subst, arith, Option, Some, None, Bool, true, false}
+use Rattle.std.proofs.Common.{◌≡◌, ℕ, ◌+◌, ◌<◌, ◌^◌, List, [], ◌∷◌, ◌++◌, length, refl, sym, ap, ◌∙◌, subst, arith, Option, Some, None, Bool, true}
 use Rattle.std.specs.List.{All}
 use Rattle.std.specs.Prelude.{◌==◌, Result, Ok, Err, IfOk, IfSome, IfNone}
 use Rattle.std.proofs.lemmas.Bool.{eqb-true}
@@ -126,10 +126,6 @@ none_left (byte ∷ bytes) answer is empty =
     let tested : (length (byte ∷ bytes) == 0) ≡ true = sym is ∙ empty in
     let none : length (byte ∷ bytes) ≡ 0 = eqb-true _ _ tested in
     absurd (omega arith)
-
-pub some_left : (bytes : List ℕ) → false ≡ (length bytes == 0) → bytes ≡ [] → ⊥
-some_left [] is none = absurd (cc)
-some_left (byte ∷ bytes) is none = absurd (cc)
 
 -- what is read of bytes that spell a layer
 pub is_read : (bytes : List ℕ) (read : Option KeyLayer) → IfSome read (λ layer. Spells bytes layer) → IfNone read ((layer : KeyLayer) → Spells bytes layer → ⊥)

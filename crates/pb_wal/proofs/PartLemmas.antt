@@ -1,6 +1,5 @@
 -- Counts and fields at the front of bytes, and what is behind them.
-use Rattle.std.proofs.Common.{◌≡◌, ℕ, ◌+◌, ◌^◌, ◌<◌, ◌≤◌, List, [], ◌∷◌, ◌++◌, length, false, refl, sym, ap, ◌∙◌, arith, length-append}
-use Rattle.std.specs.Prelude.{◌==◌}
+use Rattle.std.proofs.Common.{◌≡◌, ℕ, ◌+◌, ◌^◌, ◌<◌, ◌≤◌, List, [], ◌++◌, length, refl, sym, ap, ◌∙◌, arith, length-append}
 use Rattle.std.proofs.lemmas.List.{append-nil}
 use Rattle.pb_bytes.specs.Varint.{varint, field}
 use Rattle.pb_bytes.proofs.ReadingLemmas.{one_field}
@@ -34,7 +33,3 @@ same_two from a b c d fits one other =
 -- bytes that are a field are no other
 pub same_last : (from a b : List ℕ) → length from < 2 ^ 64 → from ≡ field a → from ≡ field b → a ≡ b
 same_last from a b fits one other = (same_front from a b [] [] fits (whole from (field a) one) (whole from (field b) other)).0
-
-pub some_left : (bytes : List ℕ) → false ≡ (length bytes == 0) → bytes ≡ [] → ⊥
-some_left [] is none = absurd (cc)
-some_left (byte ∷ bytes) is none = absurd (cc)

@@ -1,5 +1,6 @@
 use Rattle.std.proofs.Common.{arith}
-use Rattle.pb_table.proofs.TableLemmas.{ReadDels, ReadRows, no_dels, no_rows, only, found_layer, no_layer, none_left, some_left}
+use Rattle.pb_bytes.proofs.Steps.{some_left}
+use Rattle.pb_table.proofs.TableLemmas.{ReadDels, ReadRows, no_dels, no_rows, only, found_layer, no_layer, none_left}
 use Rattle.pb_table.proofs.table.read_format_1.Goals as goal
 
 pub returns-in_default-clause-none : goal.returns-in_default-clause-none

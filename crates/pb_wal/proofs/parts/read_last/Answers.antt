@@ -1,6 +1,7 @@
 use Rattle.std.proofs.Common.{[], arith}
 use Rattle.pb_bytes.specs.Varint.{field}
-use Rattle.pb_wal.proofs.PartLemmas.{whole, same_front, some_left}
+use Rattle.pb_bytes.proofs.Steps.{some_left}
+use Rattle.pb_wal.proofs.PartLemmas.{whole, same_front}
 use Rattle.pb_wal.proofs.parts.read_last.Goals as goal
 
 pub returns-in_err-content-clause-none : goal.returns-in_err-content-clause-none

@@ -3,7 +3,7 @@ use Rattle.std.proofs.Common.{◌≡◌, ℕ, false, ◌⊎◌, inl, inr, Option
 use Rattle.std.specs.Prelude.{slice_get}
 use Rattle.std.specs.List.{list_any}
 use Rattle.std.specs.Option.{option_map, option_and_then}
-use Rattle.std.proofs.lemmas.Option.{some_pair_parts}
+use Rattle.std.proofs.lemmas.Option.{some_pair_parts, same_Some}
 use Rattle.pb_marker_world.specs.declared.stages.Stage.TheVariants.{Intended, Marked, Held, Loose, Bare, Counted, Ended}
 use Rattle.pb_marker_world.specs.declared.records.Place.{Place}
 use Rattle.pb_marker_world.specs.declared.scans.Found.{Found}
@@ -13,7 +13,6 @@ use Rattle.pb_marker_world.specs.Steps.Step.{PutsObject, PutsMarker, Checks, Del
 use Rattle.pb_marker_world.specs.Book.{Book, entry_in, opening_in, world_of, written}
 use Rattle.pb_marker_world.specs.Events.{step_at, placed_in, places_of, IsPossible}
 use Rattle.pb_marker_world.specs.Found.{IsFoundAt, marked_from, stage_marked}
-use Rattle.pb_marker_world.proofs.Tests.{same_some}
 use Rattle.pb_marker_world.proofs.Lists.{places_of-written, append-none}
 
 -- the step that is asked for is the one that happens
@@ -70,11 +69,11 @@ refused b at k C f needs found lacks m =
     let u = step_names b at k m.store m.step m.asked in
     let p = u.place in
     let e = needs p.store p.number m.after (at_asked b p.store (k p.number) m.store m.step m.after u.asked m.happens) in
-    let same : p ≡ found.place = same_some p found.place (sym u.there ∙ found.there) in
+    let same : p ≡ found.place = same_Some p found.place (sym u.there ∙ found.there) in
     let store : p.store ≡ f.store = ap (λ (x : Place). x.store) same ∙ found.store in
     let number : p.number ≡ f.number = ap (λ (x : Place). x.number) same ∙ found.number in
     let entry : e.entry ≡ f.entry =
-    same_some e.entry f.entry
+    same_Some e.entry f.entry
     (sym e.stands ∙ (ap (λ x. entry_in b.places x p.number) store ∙ (ap (λ x. entry_in b.places f.store x) number ∙ found.stands))) in
     lacks (subst (λ x. C x f.number f.entry) store (subst (λ x. C p.store x f.entry) number (subst (C p.store p.number) entry e.is)))
 

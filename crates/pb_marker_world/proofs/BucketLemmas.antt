@@ -8,6 +8,7 @@ use Rattle.std.specs.Ordering.{nat_cmp, is_eq, eq_by_cmp}
 use Rattle.std.specs.Cmp.{tied_itself}
 use Rattle.std.specs.Cmp.Lexicographic.{slice_cmp, nat_list_cmp_total}
 use Rattle.std.proofs.lemmas.Bool.{both_ways, and_parts, and_from, or_cases}
+use Rattle.pb_keys.proofs.Tests.{same_tests}
 use Rattle.pb_devices.specs.Objects.{Objects}
 use Rattle.pb_names.specs.Identity.{Identity, IsObject}
 use Rattle.pb_names.specs.Named.{Named, object, marker, IsNamed}
@@ -17,7 +18,7 @@ use Rattle.pb_names.proofs.NamedLemmas.{names_are_apart, prefix_tells_shared}
 use Rattle.pb_names.proofs.RangeLemmas.{tests_tell_marker_numbers, tests_tell_objects, tests_tell_stores}
 use Rattle.pb_marker_world.specs.Machine.{Marker, same_identity, same_marker, with_object, without_object, with_marker, without_marker}
 use Rattle.pb_marker_world.specs.Bucket.{IsMarker, is_marker, name_of, shown_names, is_shared_name, IsInForm, NamesInForm}
-use Rattle.pb_marker_world.proofs.Worlds.{names_path, same_test}
+use Rattle.pb_marker_world.proofs.Worlds.{names_path}
 use Rattle.pb_marker_world.proofs.Tests.{identity_is, identity_self, marker_is, marker_self}
 
 -- ---- names
@@ -136,7 +137,7 @@ module _ (objects : Objects) (name bytes : List ℕ) where
   objects_put o form is q =
       ap (λ x. is_object q && x) (has_put objects name bytes (object_name q))
       ∙ put_here (is_object q) (is_name (object_name q) name) (same_identity q o) (contains_key objects (object_name q))
-      (λ f. same_test _ _
+      (λ f. same_tests _ _
       (λ x. identity_self q o (one_object q o (object_in_form q f) form (same_name _ _ x ∙ is)))
       (λ x. name_itself _ _ (ap object_name (identity_is q o x) ∙ sym is)))
       (λ x. ap is_object (identity_is q o x) ∙ is_object_of o form)
@@ -146,7 +147,7 @@ module _ (objects : Objects) (name bytes : List ℕ) where
   markers_put m form is q =
       ap (λ x. is_marker q && x) (has_put objects name bytes (name_of q))
       ∙ put_here (is_marker q) (is_name (name_of q) name) (same_marker q m) (contains_key objects (name_of q))
-      (λ f. same_test _ _
+      (λ f. same_tests _ _
       (λ x. marker_self q m (one_marker q m (marker_in_form q f) form (same_name _ _ x ∙ is)))
       (λ x. name_itself _ _ (ap name_of (marker_is q m x) ∙ sym is)))
       (λ x. ap is_marker (marker_is q m x) ∙ is_marker_of m form)
@@ -156,7 +157,7 @@ module _ (objects : Objects) (name bytes : List ℕ) where
   objects_deleted o form is q =
       ap (λ x. is_object q && x) (has_deleted objects name (object_name q))
       ∙ deleted_here (is_object q) (is_name (object_name q) name) (same_identity q o) (contains_key objects (object_name q))
-      (λ f. same_test _ _
+      (λ f. same_tests _ _
       (λ x. identity_self q o (one_object q o (object_in_form q f) form (same_name _ _ x ∙ is)))
       (λ x. name_itself _ _ (ap object_name (identity_is q o x) ∙ sym is)))
 
@@ -165,7 +166,7 @@ module _ (objects : Objects) (name bytes : List ℕ) where
   markers_deleted m form is q =
       ap (λ x. is_marker q && x) (has_deleted objects name (name_of q))
       ∙ deleted_here (is_marker q) (is_name (name_of q) name) (same_marker q m) (contains_key objects (name_of q))
-      (λ f. same_test _ _
+      (λ f. same_tests _ _
       (λ x. marker_self q m (one_marker q m (marker_in_form q f) form (same_name _ _ x ∙ is)))
       (λ x. name_itself _ _ (ap name_of (marker_is q m x) ∙ sym is)))
 

@@ -4,6 +4,7 @@ use Rattle.std.specs.Prelude.{◌==◌, if◌then◌else◌}
 use Rattle.std.specs.List.{list_any}
 use Rattle.std.specs.Option.{option_map}
 use Rattle.std.proofs.lemmas.Bool.{both_ways, cases_Bool, cases_eq, cond-true, cond-false}
+use Rattle.std.proofs.lemmas.Option.{same_Some}
 use Rattle.pb_names.specs.Identity.{Identity}
 use Rattle.pb_marker_world.specs.declared.stages.Stage.{Stage}
 use Rattle.pb_marker_world.specs.declared.stages.Stage.TheVariants.{Loose, Counted}
@@ -11,7 +12,6 @@ use Rattle.pb_marker_world.specs.Machine.{Marker, Entry, Part, World, local_of, 
 use Rattle.pb_marker_world.specs.Steps.{settled, with_part, crashed}
 use Rattle.pb_marker_world.specs.Sound.{shows_marker, may_show_marker, is_on_its_way, is_beginning, is_put, answers_for_object, IsDoomed, IsLent, IsSteady, OwnMarkersStand, HeldObjectsStand, LentMarkersAreSafe, OpenHandlesLendHeld, MarkersAreAccounted, ObjectsAreAnswered, EntriesUseNumbers, BeginningsAreFresh, IntendedMakeTheirOwn, PutAreTheirOwn, LendersAreOfTheObject, HandlesAreOfThePast}
 use Rattle.pb_marker_world.proofs.Worlds.{part_here, part_there, used_kept}
-use Rattle.pb_marker_world.proofs.Tests.{same_some}
 use Rattle.pb_marker_world.proofs.Moves.{S7_objects_from, S7_markers_from}
 
 -- the entry is as before, or Loose with no lender any more
@@ -31,7 +31,7 @@ record Is (o : Option Entry) (y : Entry) : Type 0 where
 
 mapped_back : (o : Option Entry) (x : Entry) → option_map (λ e. settled e Loose) o ≡ Some x → Was o x
 mapped_back None x p = absurd (cc)
-mapped_back (Some y) x p = record { entry = y; stands = refl; how = inr (sym (same_some (settled y Loose) x p)) }
+mapped_back (Some y) x p = record { entry = y; stands = refl; how = inr (sym (same_Some (settled y Loose) x p)) }
 
 module _ (w : World) (s : ℕ) (kept : List ℕ) (b : IsSteady w) where
   abbrev v : World

@@ -3,6 +3,7 @@ use Rattle.std.proofs.Common.{◌≡◌, ℕ, true, false, ◌⊎◌, inl, inr, 
 use Rattle.std.specs.Prelude.{not, if◌then◌else◌}
 use Rattle.std.specs.List.{list_any, filter}
 use Rattle.std.proofs.lemmas.Bool.{both_ways, cases_Bool, cond-true, cond-false}
+use Rattle.std.proofs.lemmas.Option.{same_Some}
 use Rattle.pb_marker_world.specs.declared.stages.Stage.{Stage}
 use Rattle.pb_marker_world.specs.declared.stages.Stage.TheVariants.{Intended, Put, Marked, Held, Loose, Bare, Counted, Ended}
 use Rattle.pb_marker_world.specs.declared.events.Event.TheVariants.{PutObject, PutMarker, Check, DeleteMarker, Count, DeleteObject, Drop}
@@ -14,7 +15,7 @@ use Rattle.pb_marker_world.specs.Steps.Step.{PutsObject, PutsMarker, Checks, Del
 use Rattle.pb_marker_world.specs.Book.{Book, opening_in, part_of, world_of}
 use Rattle.pb_marker_world.specs.Events.{lender_in, lender_found, marker_found, IsDone}
 use Rattle.pb_marker_world.specs.Found.{IsFoundAt, marked_from, stage_marked}
-use Rattle.pb_marker_world.proofs.Tests.{same_some, identity_is, identity_self, marker_is, marker_self, list_any_at}
+use Rattle.pb_marker_world.proofs.Tests.{identity_is, identity_self, marker_is, marker_self, list_any_at}
 use Rattle.pb_marker_world.proofs.Lists.{list_any_find, has_object-push, has_marker-push, has_object-forget, has_marker-forget}
 use Rattle.pb_marker_world.proofs.Books.{book_written, world-written, world-dropped}
 use Rattle.pb_marker_world.proofs.Asked.{asked_at, placed_at, kept_places}
@@ -73,7 +74,7 @@ module _ (b : Book) (at : ℕ) (f : Found) (found : IsFoundAt b.places at f) whe
         how = inl (record {
           at = record { stands = found.stands; come = p };
           left = ap (λ x. moved (local_of (world_of b) f.store) f.number (at_stage f.entry x)
-              (with_marker (world_of b).names (own_marker f.store f.number f.entry))) (sym (same_some Held stage h));
+              (with_marker (world_of b).names (own_marker f.store f.number f.entry))) (sym (same_Some Held stage h));
         });
       }
       how Intended (Some m) p r h = record {
@@ -83,7 +84,7 @@ module _ (b : Book) (at : ℕ) (f : Found) (found : IsFoundAt b.places at f) whe
           lender = m;
           lent = r;
           left = ap (λ x. moved (local_of (world_of b) f.store) f.number (at_stage f.entry x)
-              (with_marker (world_of b).names (own_marker f.store f.number f.entry))) (sym (same_some Marked stage h));
+              (with_marker (world_of b).names (own_marker f.store f.number f.entry))) (sym (same_Some Marked stage h));
         });
       }
       how Intended None p r h = absurd (cc)

@@ -2,13 +2,13 @@
 use Rattle.std.proofs.Common.{◌≡◌, ℕ, ◌≤◌, true, false, ◌⊎◌, inl, inr, Option, Some, None, refl, sym, ap, ◌∙◌, subst}
 use Rattle.std.specs.Prelude.{◌==◌}
 use Rattle.std.proofs.lemmas.Bool.{both_ways, false≢true, false_from_ne_true, or_left, or_right, cases_eq, eq-eqb}
+use Rattle.std.proofs.lemmas.Option.{same_Some}
 use Rattle.pb_names.specs.Identity.{Identity}
 use Rattle.pb_marker_world.specs.declared.stages.Stage.TheVariants.{Intended, Put, Held, Counted}
 use Rattle.pb_marker_world.specs.Machine.{Marker, Entry, Part, World, local_of, with_local, entry_at, identity}
 use Rattle.pb_marker_world.specs.Steps.{MayIntend, OffersObject, new_entry, with_part, with_entry, with_used}
 use Rattle.pb_marker_world.specs.Sound.{shows_marker, is_put, IsDoomed, IsLent, IsFresh, IsSteady, OwnMarkersStand, HeldObjectsStand, LentMarkersAreSafe, OpenHandlesLendHeld, MarkersAreAccounted, ObjectsAreAnswered, EntriesUseNumbers, BeginningsAreFresh, IntendedMakeTheirOwn, PutAreTheirOwn, LendersAreOfTheObject}
 use Rattle.pb_marker_world.proofs.Worlds.{place_cases, part_here, part_there, entry_set, entry_kept, opening_kept}
-use Rattle.pb_marker_world.proofs.Tests.{same_some}
 use Rattle.pb_marker_world.proofs.Moves.{S7_objects_from, S7_markers_from}
 
 abbrev pub part_intending : Part → ℕ → Identity → Option Marker → Part
@@ -27,7 +27,7 @@ module _ (w : World) (s n : ℕ) (o : Identity) (lender : Option Marker) (b : Is
         | inl a ↦ inl (
           a.0,
           a.1,
-          same_some x (new_entry o lender)
+          same_Some x (new_entry o lender)
               (sym p ∙ entry_set w s n l (Some (new_entry o lender)) (λ k. refl) t k a.0 a.1),
         )
         | inr a ↦ inr (sym (entry_kept w s n l (Some (new_entry o lender)) (λ k. refl) t k a) ∙ p)

@@ -8,6 +8,7 @@ use Rattle.std.proofs.lemmas.List.Elements.{filter_map-append}
 use Rattle.std.specs.Option.{option_map}
 use Rattle.std.proofs.Math.Seq.{drop-cons}
 use Rattle.std.proofs.lemmas.Bool.{both_ways, false≢true, or_cases, or_left, or_right, and_parts, and_from, and_left, and_right, cases_Bool, cases_eq, eq-eqb, ne_eqb, eqb-true, cond-true, cond-false, false_from_ne_true}
+use Rattle.pb_keys.proofs.Tests.{either_turns, same_tests}
 use Rattle.pb_names.specs.Identity.{Identity}
 use Rattle.pb_marker_world.specs.declared.stages.Stage.TheVariants.{Loose}
 use Rattle.pb_marker_world.specs.declared.records.Place.{Place}
@@ -16,7 +17,6 @@ use Rattle.pb_marker_world.specs.Machine.{Marker, Entry, same_identity, same_mar
 use Rattle.pb_marker_world.specs.Steps.{settled}
 use Rattle.pb_marker_world.specs.Book.{is_place, entry_in, opening_in, has_object, has_marker, written, loosened, reopened}
 use Rattle.pb_marker_world.specs.Events.{places_of}
-use Rattle.pb_marker_world.proofs.Worlds.{same_test}
 use Rattle.pb_marker_world.proofs.Tests.{identity_is, identity_self, marker_is, marker_self}
 
 -- a look-up at a place of the scan
@@ -132,31 +132,25 @@ list_any_find f (x ∷ xs) p =
       | inr q ↦ let u = list_any_find f xs q in record { at = suc u.at; item = u.item; there = u.there; passes = u.passes }
     ]
 
-or_swap : (a b : Bool) → (a || b) ≡ (b || a)
-or_swap true true = refl
-or_swap true false = refl
-or_swap false true = refl
-or_swap false false = refl
-
 identity_sym : (a b : Identity) → same_identity a b ≡ same_identity b a
 identity_sym a b =
-    same_test (same_identity a b) (same_identity b a)
+    same_tests (same_identity a b) (same_identity b a)
     (λ p. identity_self b a (sym (identity_is a b p))) (λ p. identity_self a b (sym (identity_is b a p)))
 
 marker_sym : (a b : Marker) → same_marker a b ≡ same_marker b a
 marker_sym a b =
-    same_test (same_marker a b) (same_marker b a)
+    same_tests (same_marker a b) (same_marker b a)
     (λ p. marker_self b a (sym (marker_is a b p))) (λ p. marker_self a b (sym (marker_is b a p)))
 
 pub has_object-push : (xs : List Identity) (o q : Identity) → has_object (xs ++ o ∷ []) q ≡ (same_identity q o || has_object xs q)
 has_object-push xs o q =
     list_any-push (λ x. same_identity x q) xs o
-    ∙ (or_swap (has_object xs q) (same_identity o q) ∙ ap (λ b. b || has_object xs q) (identity_sym o q))
+    ∙ (either_turns (has_object xs q) (same_identity o q) ∙ ap (λ b. b || has_object xs q) (identity_sym o q))
 
 pub has_marker-push : (xs : List Marker) (m q : Marker) → has_marker (xs ++ m ∷ []) q ≡ (same_marker q m || has_marker xs q)
 has_marker-push xs m q =
     list_any-push (λ x. same_marker x q) xs m
-    ∙ (or_swap (has_marker xs q) (same_marker m q) ∙ ap (λ b. b || has_marker xs q) (marker_sym m q))
+    ∙ (either_turns (has_marker xs q) (same_marker m q) ∙ ap (λ b. b || has_marker xs q) (marker_sym m q))
 
 pub has_object-forget : (xs : List Identity) (o q : Identity)
     → has_object (filter (λ x. not (same_identity x o)) xs) q ≡ (not (same_identity q o) && has_object xs q)

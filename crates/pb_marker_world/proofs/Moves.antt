@@ -2,12 +2,14 @@
 use Rattle.std.proofs.Common.{◌≡◌, ℕ, ◌≤◌, true, false, ◌⊎◌, inl, inr, Some, None, refl, sym, ap, ◌∙◌, subst}
 use Rattle.std.specs.Prelude.{slice_get}
 use Rattle.std.proofs.lemmas.Bool.{both_ways, false_from_ne_true}
+use Rattle.std.proofs.lemmas.Option.{same_Some}
+use Rattle.pb_keys.proofs.Tests.{same_tests}
 use Rattle.pb_names.specs.Identity.{Identity}
 use Rattle.pb_marker_world.specs.declared.stages.Stage.TheVariants.{Intended, Put, Held, Counted}
 use Rattle.pb_marker_world.specs.Machine.{Marker, Entry, Names, Lending, World, local_of, with_local, entry_at, identity, own_marker}
 use Rattle.pb_marker_world.specs.Steps.{IsOffered, moved}
 use Rattle.pb_marker_world.specs.Sound.{shows_marker, may_show_marker, is_on_its_way, is_beginning, is_put, answers_for_object, IsAccounted, IsAnswered, IsDoomed, IsLent, IsLentSafely, IsFresh, IsSteady, OwnMarkersStand, HeldObjectsStand, LentMarkersAreSafe, OpenHandlesLendHeld, MarkersAreAccounted, ObjectsAreAnswered, EntriesUseNumbers, BeginningsAreFresh, IntendedMakeTheirOwn, PutAreTheirOwn, LendersAreOfTheObject, HandlesAreOfThePast}
-use Rattle.pb_marker_world.proofs.Worlds.{place_cases, same_test, marker_from, entry_set, entry_kept, opening_kept, used_kept}
+use Rattle.pb_marker_world.proofs.Worlds.{place_cases, marker_from, entry_set, entry_kept, opening_kept, used_kept}
 
 -- in v the entry under n of s is f in place of e, and all other entries are as before
 pub record Move (w v : World) (s n : ℕ) (e f : Entry) : Type 0 where
@@ -21,9 +23,6 @@ pub record Move (w v : World) (s n : ℕ) (e f : Entry) : Type 0 where
   pub opening : (t : ℕ) → (v.parts t).opening ≡ (w.parts t).opening
   pub lendings : v.lendings ≡ w.lendings
 
-same_some : {A : Type 0} (x y : A) → Some x ≡ Some y → x ≡ y
-same_some x y p = cc
-
 pub move_of : (w : World) (s n : ℕ) (e f : Entry) (names : Names) → entry_at w s n ≡ Some e
     → Move w (with_local w s (moved (local_of w s) n f names)) s n e f
 move_of w s n e f names p =
@@ -32,11 +31,11 @@ move_of w s n e f names p =
       found = p;
       made = entry_set w s n l (Some f) (λ k. refl) s n refl refl;
       back = λ t k x q. elim (place_cases t k s n) [
-        | inl a ↦ inl (a.0, a.1, same_some x f (sym q ∙ entry_set w s n l (Some f) (λ k. refl) t k a.0 a.1))
+        | inl a ↦ inl (a.0, a.1, same_Some x f (sym q ∙ entry_set w s n l (Some f) (λ k. refl) t k a.0 a.1))
         | inr a ↦ inr (a, sym (entry_kept w s n l (Some f) (λ k. refl) t k a) ∙ q)
       ];
       forth = λ t k x q. elim (place_cases t k s n) [
-        | inl a ↦ inl (a.0, a.1, same_some x e (sym q ∙ (ap (λ y. entry_at w y k) a.0 ∙ (ap (λ y. entry_at w s y) a.1 ∙ p))))
+        | inl a ↦ inl (a.0, a.1, same_Some x e (sym q ∙ (ap (λ y. entry_at w y k) a.0 ∙ (ap (λ y. entry_at w s y) a.1 ∙ p))))
         | inr a ↦ inr (a, entry_kept w s n l (Some f) (λ k. refl) t k a ∙ q)
       ];
       used = used_kept w s l refl;
@@ -336,7 +335,7 @@ module _ (w v : World) (s n : ℕ) (e f : Entry) (c : MayMove w v s n e f) (b : 
         ];
         unlent = λ m q y. fresh.unlent m (offered_back m q) y;
         present =
-            same_test (v.names.objects x.object) (w.names.objects x.object)
+            same_tests (v.names.objects x.object) (w.names.objects x.object)
             (λ y. elim (c.object_put x.object y) [ inl u ↦ u | inr u ↦ absurd (other (sym u)) ])
             (λ y. elim (c.object_kept x.object y) [ inl u ↦ u | inr u ↦ absurd (other (sym u.0)) ])
             ∙ fresh.present;

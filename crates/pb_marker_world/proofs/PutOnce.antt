@@ -4,6 +4,7 @@ use Rattle.std.specs.Prelude.{◌==◌, if◌then◌else◌}
 use Rattle.std.specs.List.{list_any}
 use Rattle.std.specs.Option.{option_map}
 use Rattle.std.proofs.lemmas.Bool.{both_ways, cases_Bool, cases_eq, cond-true, cond-false, eq-eqb, ne_eqb, eqb-true, false_from_ne_true, or_from, or_right}
+use Rattle.std.proofs.lemmas.Option.{same_Some}
 use Rattle.pb_names.specs.Identity.{Identity}
 use Rattle.pb_marker_world.specs.declared.stages.Stage.{Stage}
 use Rattle.pb_marker_world.specs.declared.stages.Stage.TheVariants.{Intended, Put, Marked, Held, Loose, Bare, Counted, Ended}
@@ -12,7 +13,7 @@ use Rattle.pb_marker_world.specs.Steps.{Step, Happens, Reaches, IsOffered, new_e
 use Rattle.pb_marker_world.specs.Steps.Step.{Spends, Intends, PutsObject, PutsMarker, Checks, DeletesMarker, Counts, DeletesObject, Drops, Lends, DropsHandle, Crashes}
 use Rattle.pb_marker_world.specs.Sound.{may_show_marker, is_beginning, is_put, IsSteady}
 use Rattle.pb_marker_world.specs.Calls.{puts_object, puts_marker}
-use Rattle.pb_marker_world.proofs.Tests.{same_some, same_entry}
+use Rattle.pb_marker_world.proofs.Tests.{same_entry}
 
 -- ---- how an entry under a used number goes on
 
@@ -36,7 +37,7 @@ moved_before l after k n e f x there advances left p =
     let now : (if n == k then Some f else l.part.entries n) ≡ Some x = sym (ap (λ (y : Part). y.entries n) left) ∙ p in
     elim (cases_eq n k) [
       | inl q ↦
-          let same : f ≡ x = same_some f x (sym (cond-true (n == k) (Some f) (l.part.entries n) (eq-eqb n k q)) ∙ now) in
+          let same : f ≡ x = same_Some f x (sym (cond-true (n == k) (Some f) (l.part.entries n) (eq-eqb n k q)) ∙ now) in
           inr (record {
             entry = e;
             stands = ap (λ i. l.part.entries i) q ∙ there;
@@ -64,7 +65,7 @@ loosened_before l n x (Some e) there p =
     inr (record {
       entry = e;
       stands = there;
-      advances = subst (λ y. Advances e y) (same_some (settled e Loose) x p) (behind e (settled e Loose) refl);
+      advances = subst (λ y. Advances e y) (same_Some (settled e Loose) x p) (behind e (settled e Loose) refl);
     })
 
 module _ (store : ℕ) (l : Local) (n : ℕ) (used : l.part.used n ≡ true) where
@@ -290,7 +291,7 @@ module _ (w : World) (b : IsSteady w) where
         none_among store n PutsNoMarker puts_no_marker (puts_marker n) (bars_marker store n) steps (local_of w store) after reached
         (record {
           used = sym (λ i. (w.parts (at_store i)).used (at_its_number i)) ∙ (b.sound.S7_markers m present).0;
-          each = λ e p. ap (λ (x : Entry). is_beginning x.stage) (same_some e u.entry (sym p ∙ here)) ∙ shown_is_late u.entry.stage u.shows;
+          each = λ e p. ap (λ (x : Entry). is_beginning x.stage) (same_Some e u.entry (sym p ∙ here)) ∙ shown_is_late u.entry.stage u.shows;
         })
       where
         shown_is_late : (stage : Stage) → may_show_marker stage ≡ true → is_beginning stage ≡ false

@@ -4,6 +4,7 @@ use Rattle.std.specs.Prelude.{slice_get, slice_set, ◌==◌}
 use Rattle.std.specs.List.{list_all}
 use Rattle.std.specs.Option.{option_map}
 use Rattle.std.proofs.lemmas.Bool.{false≢true, or_right, cases_eq}
+use Rattle.std.proofs.lemmas.Option.{same_Some}
 use Rattle.pb_marker_world.specs.declared.stages.Stage.{Stage}
 use Rattle.pb_marker_world.specs.declared.stages.Stage.TheVariants.{Intended, Put, Marked, Held, Loose, Bare, Counted, Ended}
 use Rattle.pb_marker_world.specs.Machine.{Marker, Entry, Part, Lending, Local, World, local_of, with_local, entry_at, own_marker, empty_world}
@@ -11,7 +12,7 @@ use Rattle.pb_marker_world.specs.Steps.{Step, Happens, Goes, Reaches, Runs, is_h
 use Rattle.pb_marker_world.specs.Steps.Step.{Spends, Intends, PutsObject, PutsMarker, Checks, DeletesMarker, Counts, DeletesObject, Drops, Lends, DropsHandle, Crashes}
 use Rattle.pb_marker_world.specs.Sound.{HoldsUnder, IsSteady}
 use Rattle.pb_marker_world.proofs.Worlds.{part_here, part_there, opening_kept, used_kept}
-use Rattle.pb_marker_world.proofs.Tests.{same_some, list_all_at, slice_get_push, slice_get_set, slice_get_filter_map}
+use Rattle.pb_marker_world.proofs.Tests.{list_all_at, slice_get_push, slice_get_set, slice_get_filter_map}
 use Rattle.pb_marker_world.proofs.MoveSteps.{put_object_steady, put_marker_steady, put_own_marker_steady, check_steady, delete_marker_steady, count_none_steady, count_some_steady, delete_object_steady}
 use Rattle.pb_marker_world.proofs.Quiet.{IsCovered, LendsHeld, quiet_steady}
 use Rattle.pb_marker_world.proofs.Intends.{intend_steady}
@@ -68,7 +69,7 @@ module _ (w : World) (s : ℕ) (b : IsSteady w) where
       → option_map (own_marker s n) o ≡ Some m → HoldsUnder w s m
   held_under None n m p q r = absurd (false≢true q)
   held_under (Some e) n m p q r =
-      let same : m ≡ own_marker s n e = sym (same_some (own_marker s n e) m r) in
+      let same : m ≡ own_marker s n e = sym (same_Some (own_marker s n e) m r) in
       let number = ap (λ (x : Marker). x.number) same in
       record {
         entry = e;

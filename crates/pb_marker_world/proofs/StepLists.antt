@@ -4,10 +4,10 @@ use Rattle.std.specs.Prelude.{◌==◌, ◌||◌, ◌&&◌, nat_eq, nat_le, nat_
 use Rattle.std.specs.List.{list_any, range_with_len, IsDistinct, AllByRecursion}
 use Rattle.std.proofs.lemmas.Bool.{or_parts, or_from, eqb-true, eq-eqb}
 use Rattle.std.proofs.lemmas.Bool.Decides.{nat_tests}
+use Rattle.pb_keys.proofs.Tests.{same_tests}
 use Rattle.pb_marker_world.specs.Machine.{Part, Local}
 use Rattle.pb_marker_world.specs.Steps.{Step, Happens, Reaches, ReachesThrough, with_part, with_used}
 use Rattle.pb_marker_world.specs.Spending.{spend_each, spend_block, with_all_used, with_block_used}
-use Rattle.pb_marker_world.proofs.Worlds.{same_test}
 
 pub joined : (store : ℕ) (l between after : Local) (steps more : List Step) → Reaches store l steps between
     → Reaches store between more after → Reaches store l (steps ++ more) after
@@ -41,7 +41,7 @@ or_turned false true c false e = refl
 or_turned false false c d e = ap (λ x. (x || false) || c) e
 
 swapped : (n k : ℕ) → (k == n) ≡ (n == k)
-swapped n k = same_test _ _ (λ x. eq-eqb n k (sym (eqb-true k n x))) (λ x. eq-eqb k n (sym (eqb-true n k x)))
+swapped n k = same_tests _ _ (λ x. eq-eqb n k (sym (eqb-true k n x))) (λ x. eq-eqb k n (sym (eqb-true n k x)))
 
 -- the rest of the numbers is unused still, once one that differs from them is used
 still_unused : (used : ℕ → Bool) (n : ℕ) (numbers : List ℕ) → AllByRecursion (λ k. nat_eq n k ≡ false) numbers

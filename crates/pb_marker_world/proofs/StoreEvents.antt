@@ -4,6 +4,7 @@ use Rattle.std.specs.Prelude.{slice_get, ◌==◌, if◌then◌else◌}
 use Rattle.std.specs.List.{list_all, filter_map}
 use Rattle.std.specs.Option.{option_map, option_and_then}
 use Rattle.std.proofs.lemmas.Bool.{both_ways, cases_Bool, cond-true, cond-false}
+use Rattle.std.proofs.lemmas.Option.{same_Some}
 use Rattle.pb_names.specs.Identity.{Identity}
 use Rattle.pb_marker_world.specs.declared.stages.Stage.TheVariants.{Intended}
 use Rattle.pb_marker_world.specs.declared.events.Event.TheVariants.{Spend, Intend, Lend, DropHandle, Crash}
@@ -16,7 +17,6 @@ use Rattle.pb_marker_world.specs.Steps.Step.{Spends, Intends, Lends, DropsHandle
 use Rattle.pb_marker_world.specs.Book.{Book, is_used_in, opening_in, part_of, world_of}
 use Rattle.pb_marker_world.specs.Events.{step_over, is_of, number_at, lent_in, places_of, HasRoom, MayHappen, IsDone}
 use Rattle.pb_marker_world.specs.Found.{IsClosed}
-use Rattle.pb_marker_world.proofs.Tests.{same_some}
 use Rattle.pb_marker_world.proofs.Lists.{places_of-push, places_of-loosened, append-none}
 use Rattle.pb_marker_world.proofs.Books.{book_spent, book_entered, book_lending, book_crashed, world-spent, world-entered, world-lending, world-crashed}
 use Rattle.pb_marker_world.proofs.Asked.{at_asked}
@@ -128,7 +128,7 @@ pub intend_lent_refused : (b : Book) (s n : ℕ) (o : Identity) (l : Lender) (x 
     → (x.object ≡ o → ⊥) → MayHappen b (Intend s n o (Some l)) → ⊥
 intend_lent_refused b s n o l x lent other m =
     let u = asked_lent b s n o l m in
-    other (ap (λ (y : Marker). y.object) (same_some x u.marker (sym lent ∙ u.lent)) ∙ u.same)
+    other (ap (λ (y : Marker). y.object) (same_Some x u.marker (sym lent ∙ u.lent)) ∙ u.same)
 
 pub lend_done : (b : Book) (s : ℕ) (at : List ℕ) (markers : List Marker)
     → list_all (is_of b.places s) at ≡ true

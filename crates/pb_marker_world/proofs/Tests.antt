@@ -3,14 +3,12 @@ use Rattle.std.proofs.Common.{◌≡◌, ℕ, zero, suc, Bool, true, ◌⊎◌, 
 use Rattle.std.specs.Prelude.{slice_get, slice_set}
 use Rattle.std.specs.List.{list_any, list_all, filter_map, cons_option}
 use Rattle.std.proofs.lemmas.Bool.{and_parts, and_from, or_left, or_right, eqb-true, eq-eqb}
+use Rattle.std.proofs.lemmas.Option.{same_Some}
 use Rattle.pb_names.specs.Identity.{Identity}
 use Rattle.pb_marker_world.specs.declared.stages.Stage.{Stage}
 use Rattle.pb_marker_world.specs.declared.stages.Stage.TheVariants.{Intended, Put, Marked, Held, Loose, Bare, Counted, Ended}
 use Rattle.pb_marker_world.specs.Machine.{Marker, Entry, World, entry_at, same_identity, same_marker}
 use Rattle.pb_marker_world.specs.Sound.{may_show_marker, answers_for_object}
-
-pub same_some : {A : Type 0} (x y : A) → Some x ≡ Some y → x ≡ y
-same_some x y p = cc
 
 pub identity_is : (a b : Identity) → same_identity a b ≡ true → a ≡ b
 identity_is a b p =
@@ -41,19 +39,19 @@ marker_self a b p =
 pub list_any_at : {A : Type 0} (f : A → Bool) (xs : List A) (k : ℕ) (x : A)
     → slice_get xs k ≡ Some x → f x ≡ true → list_any f xs ≡ true
 list_any_at f [] k x p q = absurd (cc)
-list_any_at f (y ∷ ys) zero x p q = or_left (f y) (list_any f ys) (ap f (same_some y x p) ∙ q)
+list_any_at f (y ∷ ys) zero x p q = or_left (f y) (list_any f ys) (ap f (same_Some y x p) ∙ q)
 list_any_at f (y ∷ ys) (suc k) x p q = or_right (f y) (list_any f ys) (list_any_at f ys k x p q)
 
 pub list_all_at : {A : Type 0} (f : A → Bool) (xs : List A) (k : ℕ) (x : A)
     → list_all f xs ≡ true → slice_get xs k ≡ Some x → f x ≡ true
 list_all_at f [] k x q p = absurd (cc)
-list_all_at f (y ∷ ys) zero x q p = ap f (sym (same_some y x p)) ∙ (and_parts (f y) (list_all f ys) q).0
+list_all_at f (y ∷ ys) zero x q p = ap f (sym (same_Some y x p)) ∙ (and_parts (f y) (list_all f ys) q).0
 list_all_at f (y ∷ ys) (suc k) x q p = list_all_at f ys k x (and_parts (f y) (list_all f ys) q).1 p
 
 -- an element of an appended or changed list is an old one or the new one
 pub slice_get_push : {A : Type 0} (xs : List A) (y : A) (k : ℕ) (x : A)
     → slice_get (xs ++ y ∷ []) k ≡ Some x → (slice_get xs k ≡ Some x) ⊎ (x ≡ y)
-slice_get_push [] y zero x p = inr (sym (same_some y x p))
+slice_get_push [] y zero x p = inr (sym (same_Some y x p))
 slice_get_push [] y (suc k) x p = absurd (cc)
 slice_get_push (z ∷ zs) y zero x p = inl p
 slice_get_push (z ∷ zs) y (suc k) x p = slice_get_push zs y k x p
@@ -61,7 +59,7 @@ slice_get_push (z ∷ zs) y (suc k) x p = slice_get_push zs y k x p
 pub slice_get_set : {A : Type 0} (xs : List A) (i : ℕ) (y : A) (k : ℕ) (x : A)
     → slice_get (slice_set xs i y) k ≡ Some x → (slice_get xs k ≡ Some x) ⊎ (x ≡ y)
 slice_get_set [] i y k x p = inl p
-slice_get_set (z ∷ zs) zero y zero x p = inr (sym (same_some y x p))
+slice_get_set (z ∷ zs) zero y zero x p = inr (sym (same_Some y x p))
 slice_get_set (z ∷ zs) zero y (suc k) x p = inl p
 slice_get_set (z ∷ zs) (suc i) y zero x p = inl p
 slice_get_set (z ∷ zs) (suc i) y (suc k) x p = slice_get_set zs i y k x p
@@ -79,7 +77,7 @@ answers_if_shown Ended p = p
 pub same_entry : (w : World) (t k s n : ℕ) (x e : Entry) → entry_at w t k ≡ Some x → t ≡ s → k ≡ n
     → entry_at w s n ≡ Some e → x ≡ e
 same_entry w t k s n x e p q r u =
-    same_some x e (sym p ∙ (ap (λ y. entry_at w y k) q ∙ (ap (λ y. entry_at w s y) r ∙ u)))
+    same_Some x e (sym p ∙ (ap (λ y. entry_at w y k) q ∙ (ap (λ y. entry_at w s y) r ∙ u)))
 
 slice_get_cons_option : {A : Type 0} (o : Option A) (ys : List A) (k : ℕ) (y : A)
     → slice_get (cons_option o ys) k ≡ Some y → (o ≡ Some y) ⊎ ((j : ℕ) × (slice_get ys j ≡ Some y))

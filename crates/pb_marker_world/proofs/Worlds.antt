@@ -1,5 +1,5 @@
 -- What a world is at each place after one store has changed what it sees.
-use Rattle.std.proofs.Common.{◌≡◌, ℕ, Bool, true, false, ◌⊎◌, inl, inr, Option, refl, sym, ap, ◌∙◌}
+use Rattle.std.proofs.Common.{◌≡◌, ℕ, Bool, ◌⊎◌, inl, inr, Option, sym, ap, ◌∙◌}
 use Rattle.std.specs.Prelude.{if◌then◌else◌, ◌==◌}
 use Rattle.std.proofs.lemmas.Bool.{cases_eq, cond-true, cond-false, eq-eqb, ne_eqb}
 use Rattle.pb_names.specs.Identity.{Identity}
@@ -11,12 +11,6 @@ place_cases t k s n =
       | inl q ↦ elim (cases_eq k n) [ inl r ↦ inl (q, r) | inr r ↦ inr (λ _ x. r x) ]
       | inr q ↦ inr (λ x _. q x)
     ]
-
-pub same_test : (a b : Bool) → (a ≡ true → b ≡ true) → (b ≡ true → a ≡ true) → a ≡ b
-same_test true true f g = refl
-same_test true false f g = sym (f refl)
-same_test false true f g = g refl
-same_test false false f g = refl
 
 pub marker_from : (m : Marker) (o : Identity) (s n : ℕ) → m.object ≡ o → m.store ≡ s → m.number ≡ n
     → m ≡ record { object = o; store = s; number = n }

@@ -2,7 +2,7 @@
 use Rattle.std.proofs.Common.{◌≡◌, ℕ, ◌+◌, Bool, true, false, ◌&&◌, List, [], ◌∷◌, ◌++◌, length, Option, Some, None, refl, sym, ap, ◌∙◌, arith, append_assoc}
 use Rattle.std.specs.Prelude.{IfSome, codes, ◌==◌, not, nat_lt}
 use Rattle.std.specs.List.{AllByRecursion, flat_map, list_all}
-use Rattle.std.proofs.lemmas.Bool.{cond-false}
+use Rattle.std.proofs.lemmas.Bool.{cond-false, and_parts}
 use Rattle.std.proofs.lemmas.Bool.Decides.{nat_tests}
 use Rattle.std.proofs.lemmas.List.{append-nil}
 use Rattle.pb_names.specs.Grammar.{IsName}
@@ -25,7 +25,6 @@ use Rattle.pb_script.specs.declared.table_line.TableLine.{TableLine}
 use Rattle.pb_script.specs.declared.table_line.TableLine.TheVariants as table
 use Rattle.pb_script.specs.declared.script.Place.{Place}
 use Rattle.pb_script.specs.declared.script.Place.TheVariants.{Between, Within}
-use Rattle.pb_script.proofs.Bools.{both}
 use Rattle.pb_script.proofs.ReadTexts.{behind_text, read_texts, lines_are_read}
 use Rattle.pb_script.proofs.Again.{IsWord, some_length, word_is, name_is_word, letter_is_word, digit_is_word}
 use Rattle.pb_script.proofs.AgainLines.{head, line_again, table_line_again, words_line, words_table_line}
@@ -39,10 +38,10 @@ longer : (one two : Bool) → two ≡ true → one ≡ true → (one && two) ≡
 longer one two also is = rw (is, also) refl
 
 prefix_word : (bytes : List ℕ) → IsWord bytes → IsWord (codes "prefix=" ++ bytes)
-prefix_word bytes is = longer (nat_lt 0 (length (codes "prefix=" ++ bytes))) _ (both (nat_lt 0 (length bytes)) (list_all is_graphic bytes) is).1 (some_length 112 (codes "refix=" ++ bytes))
+prefix_word bytes is = longer (nat_lt 0 (length (codes "prefix=" ++ bytes))) _ (and_parts (nat_lt 0 (length bytes)) (list_all is_graphic bytes) is).1 (some_length 112 (codes "refix=" ++ bytes))
 
 suffix_word : (bytes : List ℕ) → IsWord bytes → IsWord (codes "suffix=" ++ bytes)
-suffix_word bytes is = longer (nat_lt 0 (length (codes "suffix=" ++ bytes))) _ (both (nat_lt 0 (length bytes)) (list_all is_graphic bytes) is).1 (some_length 115 (codes "uffix=" ++ bytes))
+suffix_word bytes is = longer (nat_lt 0 (length (codes "suffix=" ++ bytes))) _ (and_parts (nat_lt 0 (length bytes)) (list_all is_graphic bytes) is).1 (some_length 115 (codes "uffix=" ++ bytes))
 
 labelled_prefix : (bytes : List ℕ) → IsString bytes → IsWord (codes "prefix=" ++ word bytes)
 labelled_prefix bytes is = prefix_word (word bytes) (word_is bytes is)

@@ -1,9 +1,9 @@
 -- The words and the texts of what is printed.
-use Rattle.std.proofs.Common.{◌≡◌, ℕ, ◌-◌, Bool, true, false, ◌&&◌, ◌||◌, nat_le, nat_lt, List, [], ◌∷◌, ◌++◌, length, refl, ap, ◌∙◌, arith, All, append_assoc}
+use Rattle.std.proofs.Common.{◌≡◌, ℕ, ◌-◌, Bool, true, false, ◌&&◌, nat_le, nat_lt, List, [], ◌∷◌, ◌++◌, length, refl, ap, ◌∙◌, arith, All, append_assoc}
 use Rattle.std.specs.Prelude.{◌==◌, not}
 use Rattle.std.specs.Io.BufRead.{ends_with_byte}
 use Rattle.std.specs.List.{AllByRecursion, list_all}
-use Rattle.std.proofs.lemmas.Bool.{cond-true, cond-false, and_right}
+use Rattle.std.proofs.lemmas.Bool.{cond-true, cond-false, and_right, and_parts, not-true, or_from}
 use Rattle.std.proofs.lemmas.Bool.Decides.{nat_tests}
 use Rattle.std.proofs.lemmas.List.Folds.{list_all-append}
 use Rattle.std.proofs.lemmas.List.Splits.{slice_split_at, slice_split_none}
@@ -12,7 +12,6 @@ use Rattle.pb_script.specs.Texts.{texts_of}
 use Rattle.pb_script.specs.Words.{is_graphic, has_bytes, words_of, begins_with_hash, has_no_word, is_skipped}
 use Rattle.pb_script.specs.Spelling.{spelled_words, with_end}
 use Rattle.pb_script.proofs.Again.{IsWord}
-use Rattle.pb_script.proofs.Bools.{both}
 use Rattle.pb_script.proofs.Parts.{words_cut, words_whole, texts_cut}
 
 abbrev pub AreWords : List (List ℕ) → Type 0
@@ -22,13 +21,13 @@ graphic_no_space : (byte : ℕ) → is_graphic byte ≡ true → (byte == 32) �
 graphic_no_space byte is = grind (arith, nat_tests)
 
 no_space : (bytes : List ℕ) → IsWord bytes → All (λ byte. (byte == 32) ≡ false) bytes
-no_space bytes is k d h = graphic_no_space _ (AllPass-from_list_all is_graphic bytes (both _ _ is).1 k d h)
+no_space bytes is k d h = graphic_no_space _ (AllPass-from_list_all is_graphic bytes (and_parts _ _ is).1 k d h)
 
 some_has_bytes : (len : ℕ) → nat_lt 0 len ≡ true → not (len == 0) ≡ true
 some_has_bytes len is = grind (arith, nat_tests)
 
 word_has_bytes : (bytes : List ℕ) → IsWord bytes → has_bytes bytes ≡ true
-word_has_bytes bytes is = some_has_bytes (length bytes) (both _ _ is).0
+word_has_bytes bytes is = some_has_bytes (length bytes) (and_parts _ _ is).0
 
 pub words_again : (words : List (List ℕ)) → AreWords words → words_of (spelled_words words) ≡ words
 words_again [] are = refl
@@ -48,13 +47,13 @@ graphic_printable byte is = grind (arith, nat_tests)
 
 all_printable : (bytes : List ℕ) → list_all is_graphic bytes ≡ true → list_all is_printable bytes ≡ true
 all_printable [] are = refl
-all_printable (byte ∷ bytes) are = let parts = both (is_graphic byte) (list_all is_graphic bytes) are in rw (graphic_printable byte parts.0, all_printable bytes parts.1) refl
+all_printable (byte ∷ bytes) are = let parts = and_parts (is_graphic byte) (list_all is_graphic bytes) are in rw (graphic_printable byte parts.0, all_printable bytes parts.1) refl
 
 printable : (words : List (List ℕ)) → AreWords words → list_all is_printable (spelled_words words) ≡ true
 printable [] are = refl
-printable (word ∷ []) are = all_printable word (both _ _ are.0).1
+printable (word ∷ []) are = all_printable word (and_parts _ _ are.0).1
 printable (word ∷ next ∷ words) are =
-    list_all-append is_printable word (32 ∷ spelled_words (next ∷ words)) ∙ rw (all_printable word (both (nat_lt 0 (length word)) (list_all is_graphic word) are.0).1, printable (next ∷ words) are.1) refl
+    list_all-append is_printable word (32 ∷ spelled_words (next ∷ words)) ∙ rw (all_printable word (and_parts (nat_lt 0 (length word)) (list_all is_graphic word) are.0).1, printable (next ∷ words) are.1) refl
 
 printable_no_end : (byte : ℕ) → is_printable byte ≡ true → (byte == 10) ≡ false
 printable_no_end byte is = grind (arith, nat_tests)
@@ -84,19 +83,12 @@ hash_first [] words is = absurd (let e : ◌≡◌ {A = Bool} false true = is in
 hash_first (byte ∷ bytes) [] is = refl
 hash_first (byte ∷ bytes) (next ∷ words) is = refl
 
-neither : (one two : Bool) → one ≡ false → two ≡ false → (one || two) ≡ false
-neither one two is also = rw (is, also) refl
-
 -- the first of these words does not begin with `#`
 abbrev pub begins_otherwise : List (List ℕ) → Bool
 begins_otherwise [] = false
 begins_otherwise (word ∷ words) = not (begins_with_hash word)
 
-from_not : (b : Bool) → not b ≡ true → b ≡ false
-from_not true is = absurd (let e : ◌≡◌ {A = Bool} false true = is in cc)
-from_not false is = refl
-
 -- so the line is not skipped
 pub not_skipped : (words : List (List ℕ)) → AreWords words → begins_otherwise words ≡ true → is_skipped (spelled_words words) ≡ false
 not_skipped [] are other = absurd (let e : ◌≡◌ {A = Bool} false true = other in cc)
-not_skipped (word ∷ words) are other = neither _ _ (hash_first word words are.0 ∙ from_not _ other) (ap has_no_word (words_again (word ∷ words) are))
+not_skipped (word ∷ words) are other = or_from _ _ (hash_first word words are.0 ∙ not-true _ other) (ap has_no_word (words_again (word ∷ words) are))

@@ -2,7 +2,7 @@
 use Rattle.std.proofs.Common.{◌≡◌, ℕ, ◌==◌, Bool, true, false, ◌&&◌, ◌||◌, List, [], ◌∷◌, ◌++◌, Option, Some, None, refl, sym, ap, ◌∙◌, subst, arith, inl, inr}
 use Rattle.std.specs.Prelude.{IfSome, codes}
 use Rattle.std.specs.List.{filter, list_all, slice_split, onto_first}
-use Rattle.std.proofs.lemmas.Bool.{cases_Bool, cond-true, cond-false}
+use Rattle.std.proofs.lemmas.Bool.{cases_Bool, cond-true, cond-false, and_parts}
 use Rattle.std.proofs.lemmas.Bool.Decides.{nat_tests}
 use Rattle.pb_script.specs.Answers.{◌>>=◌}
 use Rattle.pb_script.specs.Words.{is_graphic, is_of_lines, has_bytes, words_of, begins_with_hash, has_no_word, is_skipped}
@@ -13,7 +13,6 @@ use Rattle.pb_script.specs.declared.line.Line.{Line}
 use Rattle.pb_script.specs.declared.table_line.TableLine.{TableLine}
 use Rattle.pb_script.specs.declared.script.Place.{Place}
 use Rattle.pb_script.specs.declared.script.Place.TheVariants.{Between, Within}
-use Rattle.pb_script.proofs.Bools.{both}
 use Rattle.pb_script.proofs.GraphicWords.{AreGraphic, two_true, same_word}
 use Rattle.pb_script.proofs.GraphicLines.{line_graphic, table_line_graphic}
 
@@ -39,8 +38,8 @@ graphic_is : (byte : ℕ) → is_graphic byte ≡ true → is_of_lines byte ≡ 
 graphic_is byte is = either_way (byte == 32) (is_graphic byte) is
 
 first_part : (byte : ℕ) (parts : List (List ℕ)) → AreGraphic (onto_first byte parts) → (is_graphic byte ≡ true) × AreGraphic parts
-first_part byte [] are = ((both (is_graphic byte) true are.0).0, tt)
-first_part byte (part ∷ parts) are = let two = both (is_graphic byte) (list_all is_graphic part) are.0 in (two.0, (two.1, are.1))
+first_part byte [] are = ((and_parts (is_graphic byte) true are.0).0, tt)
+first_part byte (part ∷ parts) are = let two = and_parts (is_graphic byte) (list_all is_graphic part) are.0 in (two.0, (two.1, are.1))
 
 text_of_lines : (text : List ℕ) → AreGraphic (slice_split (λ byte. byte == 32) text) → list_all is_of_lines text ≡ true
 text_of_lines [] are = refl

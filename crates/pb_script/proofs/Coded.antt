@@ -3,7 +3,7 @@ use Rattle.std.proofs.Common.{◌≡◌, ℕ, ◌-◌, take, inl, inr, ◌⊎◌
 use Rattle.std.specs.List.{list_all}
 use Rattle.std.specs.Str.{bytes_eq}
 use Rattle.std.specs.Prelude.{codes}
-use Rattle.std.proofs.lemmas.Bool.{cond-true, cond-false}
+use Rattle.std.proofs.lemmas.Bool.{cond-true, cond-false, and_parts}
 use Rattle.std.proofs.lemmas.List.{append-nil, length-drop}
 use Rattle.std.proofs.Math.Seq.{take-length}
 use Rattle.std.proofs.lemmas.Bool.Decides.{nat_tests}
@@ -12,7 +12,6 @@ use Rattle.pb_script.specs.Answers.{Fails}
 use Rattle.pb_script.specs.declared.fault.WordFault.{WordFault}
 use Rattle.pb_script.specs.declared.fault.WordFault.TheVariants.{OffGrammar, NoMemory}
 use Rattle.pb_script.specs.Strings.{plain, hex_pair, with_byte, bytes_of, string_of}
-use Rattle.pb_script.proofs.Bools.{both}
 
 -- these bytes, before those that are still read
 abbrev pub with_bytes : List ℕ → Option (List ℕ) → Option (List ℕ)
@@ -59,7 +58,7 @@ plain_word : (word : List ℕ) → list_all is_plain word ≡ true → bytes_of 
 unfolding bytes_of
 plain_word [] passes = refl
 plain_word (byte ∷ bytes) passes =
-    let parts = both (is_plain byte) (list_all is_plain bytes) passes in
+    let parts = and_parts (is_plain byte) (list_all is_plain bytes) passes in
     first_plain (byte ∷ bytes) (omega arith) parts.0 ∙ ap (with_byte (Some byte)) (plain_word bytes parts.1)
 
 pub string_of-plain : (word : List ℕ) → 0 < length word → bytes_eq word (codes "%") ≡ false → list_all is_plain word ≡ true → string_of word ≡ Some word

@@ -8,12 +8,12 @@ use Rattle.std.proofs.lemmas.Bool.Decides.{nat_tests}
 use Rattle.pb_names.specs.Grammar.{IsName}
 use Rattle.pb_names.specs.Identity.{IsStore}
 use Rattle.pb_names.specs.Ranges.{is_name}
+use Rattle.pb_names.proofs.RangeLemmas.{name_is}
 use Rattle.pb_keys.specs.Printed.{is_plain}
 use Rattle.pb_script.specs.Answers.{◌>>=◌, ◌>>◌}
 use Rattle.pb_script.specs.Strings.{hex_pair, plain, with_byte, bytes_of, string_of, name_of, store_of, level_of}
 use Rattle.pb_script.specs.Fields.{word_at, string_at, name_at, store_at, level_at, pair_at, labelled_at, names_of, some_names_of}
 use Rattle.pb_script.specs.Form.{IsByte, IsString}
-use Rattle.pb_script.proofs.Names.{name_from_test}
 
 -- what holds of a step's value, and of the next step's wherever it holds
 pub bind_if : {A B : Type 0} (Q : A → Type 0) (P : B → Type 0) (o : Option A) (f : A → Option B) → IfSome o Q → ((x : A) → Q x → IfSome (f x) P) → IfSome (o >>= f) P
@@ -72,7 +72,7 @@ string_formed [] = tt
 string_formed (byte ∷ bytes) = cond_if IsString _ (Some []) _ tt (bytes_formed (byte ∷ bytes))
 
 name_formed : (word : List ℕ) → IfSome (name_of word) IsName
-name_formed word = test_if IsName (is_name word) word (name_from_test word)
+name_formed word = test_if IsName (is_name word) word (name_is word)
 
 store_range : (byte : ℕ) → (nat_le 65 byte && nat_le byte 72) ≡ true → IsStore (byte - 64)
 store_range byte is = grind (arith, nat_tests)

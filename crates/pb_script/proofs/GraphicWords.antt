@@ -4,21 +4,20 @@ use Rattle.std.specs.Prelude.{IfSome, codes}
 use Rattle.std.specs.Char.{digit_value}
 use Rattle.std.specs.List.{AllByRecursion, list_all}
 use Rattle.std.specs.Str.{bytes_eq}
-use Rattle.std.proofs.lemmas.Bool.{cases_Bool, cond-true, cond-false}
+use Rattle.std.proofs.lemmas.Bool.{cases_Bool, cond-true, cond-false, and_parts}
 use Rattle.std.proofs.lemmas.Bool.Decides.{nat_tests}
 use Rattle.std.proofs.Math.ListN.{take-append-drop}
 use Rattle.std.proofs.lemmas.List.Folds.{list_all-append}
 use Rattle.std.proofs.lemmas.Slice.Eq.{bytes_eq-Decides}
 use Rattle.pb_keys.specs.Printed.{is_plain}
 use Rattle.pb_names.specs.Ranges.{is_name}
+use Rattle.pb_names.proofs.RangeLemmas.{name_is}
 use Rattle.pb_script.specs.Answers.{◌>>◌}
 use Rattle.pb_script.specs.Words.{is_graphic}
 use Rattle.pb_script.specs.Strings.{hex_pair, plain, with_byte, bytes_of, string_of, name_of, store_of, level_of}
 use Rattle.pb_script.specs.Fields.{Field, word_at, string_at, name_at, store_at, level_at, pair_at, behind, at_end, labelled_at, names_of, some_names_of}
 use Rattle.pb_script.proofs.Again.{name_is_word}
-use Rattle.pb_script.proofs.Bools.{both}
 use Rattle.pb_script.proofs.Formed.{bind_if, cond_if, test_if}
-use Rattle.pb_script.proofs.Names.{name_from_test}
 
 abbrev pub IsGraphic : List ℕ → Type 0
 IsGraphic word = list_all is_graphic word ≡ true
@@ -56,7 +55,7 @@ plain_if byte = test_if (λ x. is_graphic byte ≡ true) (is_plain byte) byte (p
 digits_if : (high low : ℕ) → IfSome (hex_pair high low) (λ x. (is_graphic high ≡ true) × (is_graphic low ≡ true))
 digits_if high low =
     test_if (λ x. (is_graphic high ≡ true) × (is_graphic low ≡ true)) (nat_lt (digit_value high) 16 && nat_lt (digit_value low) 16) _
-    (λ is. let parts = both (nat_lt (digit_value high) 16) (nat_lt (digit_value low) 16) is in
+    (λ is. let parts = and_parts (nat_lt (digit_value high) 16) (nat_lt (digit_value low) 16) is in
     (digit_graphic high parts.0, digit_graphic low parts.1))
 
 bytes_graphic : (word : List ℕ) → IfSome (bytes_of word) (λ x. IsGraphic word)
@@ -101,7 +100,7 @@ string_graphic (byte ∷ bytes) =
 
 pub name_graphic : (word : List ℕ) → IfSome (name_of word) (λ x. IsGraphic word)
 name_graphic word = test_if (λ x. IsGraphic word) (is_name word) word
-    (λ is. (both (nat_lt 0 (length word)) (list_all is_graphic word) (name_is_word word (name_from_test word is))).1)
+    (λ is. (and_parts (nat_lt 0 (length word)) (list_all is_graphic word) (name_is_word word (name_is word is))).1)
 
 letter_graphic : (byte : ℕ) → (nat_le 65 byte && nat_le byte 72) ≡ true → is_graphic byte ≡ true
 letter_graphic byte is = grind (arith, nat_tests)

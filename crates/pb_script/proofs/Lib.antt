@@ -1,4 +1,3 @@
-pub mod Bools
 pub mod Parts
 pub mod SpacedLemmas
 pub mod Scanned

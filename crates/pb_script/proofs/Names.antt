@@ -1,20 +1,14 @@
 -- The test of a name says what a name is.
 use Rattle.std.proofs.Common.{◌≡◌, ℕ, Bool, true, false, cond, List, Some, None, IsTrue, ◌↔◌, refl}
 use Rattle.std.proofs.lemmas.Bool.{cond-true}
+use Rattle.pb_keys.proofs.Tests.{same_tests}
 use Rattle.pb_names.specs.Grammar.{IsName}
 use Rattle.pb_names.specs.Ranges.{is_name}
-use Rattle.pb_names.proofs.RangeLemmas.{tests_tell_names}
+use Rattle.pb_names.proofs.RangeLemmas.{name_is, is_name_of}
 use Rattle.pb_script.specs.Strings.{name_of}
-use Rattle.pb_script.proofs.Bools.{same_tests}
-
-pub is_name_of : (word : List ℕ) → IsName word → is_name word ≡ true
-is_name_of word = (tests_tell_names word).1
-
-pub name_from_test : (word : List ℕ) → is_name word ≡ true → IsName word
-name_from_test word = (tests_tell_names word).0
 
 pub test_is : (test : Bool) (word : List ℕ) → IsTrue test ↔ IsName word → test ≡ is_name word
-test_is test word h = same_tests test (is_name word) (λ is. is_name_of word (h.0 is)) (λ is. h.1 (name_from_test word is))
+test_is test word h = same_tests test (is_name word) (λ is. is_name_of word (h.0 is)) (λ is. h.1 (name_is word is))
 
 pub name_again : (name : List ℕ) → IsName name → name_of name ≡ Some name
 name_again name is = cond-true _ _ _ (is_name_of name is)
@@ -24,4 +18,4 @@ read_where true x is = refl
 read_where false x is = cc
 
 pub name_from_read : (name : List ℕ) → name_of name ≡ Some name → IsName name
-name_from_read name is = name_from_test name (read_where (is_name name) name is)
+name_from_read name is = name_is name (read_where (is_name name) name is)

@@ -177,7 +177,7 @@ none_read old front first (Some next) is = cc
 
 -- ---- a script read
 
-abbrev of_fault : List (ℕ × Line) → Option ℕ → ScriptRead
+abbrev pub of_fault : List (ℕ × Line) → Option ℕ → ScriptRead
 of_fault lines fault = elim fault [ None ↦ Lines (without_numbers lines) | Some number ↦ Fault number ]
 
 pub read_lines : (script : List ℕ) (read : NumberedRead) → read ≡ numbered script → read.fault ≡ None

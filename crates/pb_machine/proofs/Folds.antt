@@ -1,8 +1,9 @@
 -- A store's history is the fold of its accepted changes.
 use Rattle.std.proofs.Common.{◌≡◌, ℕ, ◌+◌, ◌==◌, Bool, true, false, not, List, [], ◌∷◌, ◌++◌, length, Option, Some, None, IsSome, if◌then◌else◌, refl, sym, ap, ◌∙◌, subst, inl, inr, option_to_list, arith, length-append}
 use Rattle.std.specs.Prelude.{MatchBool}
-use Rattle.std.proofs.lemmas.Bool.{cases_Bool, cond-true, cond-false}
+use Rattle.std.proofs.lemmas.Bool.{cases_Bool, cond-true, cond-false, eqb-true}
 use Rattle.std.proofs.lemmas.Bool.Decides.{nat_tests}
+use Rattle.std.proofs.lemmas.Option.{same_Some}
 use Rattle.pb_keys.specs.Map.{Map}
 use Rattle.pb_rows.specs.Changing.{Changing, after, changed}
 use Rattle.pb_reply.specs.declared.refusal.Refusal.{Refusal}
@@ -18,7 +19,7 @@ use Rattle.pb_machine.specs.Replies.{changed_by, refusal_to}
 use Rattle.pb_machine.specs.Trail.{FindsAt, FindsHistory, IsHistoryCount, changes_at, changes_in, is_named, own_changes, states_after, unless_refused}
 use Rattle.pb_machine.specs.Ran.{Ran}
 use Rattle.pb_machine.proofs.Refused.{history_kept}
-use Rattle.pb_machine.proofs.Stores.{all_kept, others_kept, put_there, same_numbers, same_some}
+use Rattle.pb_machine.proofs.Stores.{all_kept, others_kept, put_there}
 
 -- ---- one store
 
@@ -50,9 +51,6 @@ of_match : (b : Bool) (P Q : Type 0) → MatchBool b P Q → b ≡ true → P
 of_match true P Q is b = is
 of_match false P Q is b = cc
 
-same_count : (a b : ℕ) → (a == b) ≡ true → a ≡ b
-same_count a b is = grind (arith, nat_tests)
-
 other_count : (h : History) (count : ℕ) → IsHistoryCount h count → (count == h.count) ≡ false → IsSome h.pending × (count ≡ h.count + 1)
 other_count h count (inl is) other = absurd (clash count h.count is other)
 other_count h count (inr more) other = more
@@ -61,7 +59,7 @@ opened_fold : (h : History) (count : ℕ) → h.has_begun ≡ true → IsHistory
     → IsFold h (option_to_list (if not h.has_begun then None else if count == h.count then None else h.pending)) (found_history h count)
 opened_fold h count begun found =
     let both =
-    found_fold h.has_begun (count == h.count) h.pending h.map count h.count begun (same_count count h.count)
+    found_fold h.has_begun (count == h.count) h.pending h.map count h.count begun (eqb-true count h.count)
     (other_count h count found) in
     record { begun = refl; count_is = both.0; map_is = both.1 }
 
@@ -91,7 +89,7 @@ at_put : (family : FamilyState) (line : Line) (ran : Ran) (base : FamilyState) (
     → ◌≡◌ {A = Option ℕ} (Some number) (Some store) → IsFold (family.stores number).history (own_changes family line ran) new.history
     → Folds family line ran store (with_store base number new)
 at_put family line ran base number store new is fold =
-    subst (λ (n : ℕ). Folds family line ran n (with_store base number new)) (same_some number store is)
+    subst (λ (n : ℕ). Folds family line ran n (with_store base number new)) (same_Some number store is)
     (subst (λ (s : StoreState). IsFold (family.stores number).history (own_changes family line ran) s.history)
     (sym (put_there base number new)) fold)
 
@@ -100,28 +98,28 @@ accepted_fold : (Stand : ℕ → ℕ → Map → Type 0) (family : FamilyState) 
     → (family.stores store).history.has_begun ≡ true → refusal_to family line ran ≡ None → FindsAt Stand family line ran
     → Folds family line ran store (accepted family line ran)
 accepted_fold Stand family (line.Open number) ran store is begun taken found =
-    let there = subst (λ (n : ℕ). (family.stores n).history.has_begun ≡ true) (sym (same_some number store is)) begun in
+    let there = subst (λ (n : ℕ). (family.stores n).history.has_begun ≡ true) (sym (same_Some number store is)) begun in
     at_put family (line.Open number) ran family number store _ is
     (opened_fold (family.stores number).history ran.mark.count there
     (of_match (family.stores number).history.has_begun _ _ (found taken) there))
 accepted_fold Stand family (line.Close number) ran store is begun taken found =
-    let there = subst (λ (n : ℕ). (family.stores n).history.has_begun ≡ true) (sym (same_some number store is)) begun in
+    let there = subst (λ (n : ℕ). (family.stores n).history.has_begun ≡ true) (sym (same_Some number store is)) begun in
     at_put family (line.Close number) ran family number store _ is
     (no_change (family.stores number).history (family.stores number).history there refl refl)
 accepted_fold Stand family (line.Stop number) ran store is begun taken found =
-    let there = subst (λ (n : ℕ). (family.stores n).history.has_begun ≡ true) (sym (same_some number store is)) begun in
+    let there = subst (λ (n : ℕ). (family.stores n).history.has_begun ≡ true) (sym (same_Some number store is)) begun in
     at_put family (line.Stop number) ran family number store _ is
     (no_change (family.stores number).history (family.stores number).history there refl refl)
 accepted_fold Stand family (line.Turn number lane) ran store is begun taken found =
-    let there = subst (λ (n : ℕ). (family.stores n).history.has_begun ≡ true) (sym (same_some number store is)) begun in
+    let there = subst (λ (n : ℕ). (family.stores n).history.has_begun ≡ true) (sym (same_Some number store is)) begun in
     at_put family (line.Turn number lane) ran family number store _ is
     (turned_fold ran.mark.more (family.stores number) lane _ (effect_in (in_lane (family.stores number) lane) ran) there)
 accepted_fold Stand family (line.Whole number command) ran store is begun taken found =
-    let there = subst (λ (n : ℕ). (family.stores n).history.has_begun ≡ true) (sym (same_some number store is)) begun in
+    let there = subst (λ (n : ℕ). (family.stores n).history.has_begun ≡ true) (sym (same_Some number store is)) begun in
     at_put family (line.Whole number command) ran (beside family number command ran) number store _ is
     (changed_fold (change_of (effect_of family command) ran) (family.stores number).history there)
 accepted_fold Stand family (line.Start number command) ran store is begun taken found =
-    let there = subst (λ (n : ℕ). (family.stores n).history.has_begun ≡ true) (sym (same_some number store is)) begun in
+    let there = subst (λ (n : ℕ). (family.stores n).history.has_begun ≡ true) (sym (same_Some number store is)) begun in
     at_put family (line.Start number command) ran family number store _ is
     (lane_fold (family.stores number) (lane_of command) (Some (started_by family command)) there)
 accepted_fold Stand family (line.Table table lines) ran store is begun taken found = cc
@@ -147,7 +145,7 @@ by_name (Some number) family line ran store is begun own =
           subst
           (λ (changes : List Changing). IsFold (family.stores store).history changes ((line_after family line ran).stores store).history)
           (sym (cond-true (store == number) (own_changes family line ran) [] same))
-          (own (is ∙ ap (λ (n : ℕ). Some n) (sym (same_numbers store number same))))
+          (own (is ∙ ap (λ (n : ℕ). Some n) (sym (eqb-true store number same))))
       | inr other ↦
           subst
           (λ (changes : List Changing). IsFold (family.stores store).history changes ((line_after family line ran).stores store).history)

@@ -1,7 +1,7 @@
 -- Handles and pins stay in form.
 use Rattle.std.proofs.Common.{◌≡◌, ℕ, ◌+◌, ◌≤◌, ◌==◌, Bool, true, false, not, List, Option, Some, None, if◌then◌else◌, refl, sym, ap, ◌∙◌, subst, inl, inr, arith}
 use Rattle.std.specs.List.{AllByRecursion}
-use Rattle.std.proofs.lemmas.Bool.{cases_Bool, cond-false}
+use Rattle.std.proofs.lemmas.Bool.{cases_Bool, cond-false, eqb-true, not-true, both_ways}
 use Rattle.pb_rows.specs.Changing.{Changing}
 use Rattle.pb_reply.specs.declared.refusal.Refusal.{Refusal}
 use Rattle.pb_script.specs.declared.command.Command.{Command}
@@ -22,7 +22,7 @@ use Rattle.pb_machine.specs.Ran.{Ran}
 use Rattle.pb_machine.proofs.Causes.{command_finds, open_finds}
 use Rattle.pb_machine.proofs.Names.{all-put, all-filter, all_by, all_passed}
 use Rattle.pb_machine.proofs.Refused.{opening_kept, opening_rises, openings_stay}
-use Rattle.pb_machine.proofs.Stores.{beside_stores, kept_by, same_numbers}
+use Rattle.pb_machine.proofs.Stores.{beside_stores, kept_by}
 
 -- ---- pins
 
@@ -42,23 +42,15 @@ pins_stay : (f g : FamilyState) → ((n : ℕ) → SamePlace (f.stores n) (g.sto
     → AllByRecursion (λ pin. IsPin f pin.1) pins → AllByRecursion (λ pin. IsPin g pin.1) pins
 pins_stay f g same pins all = all_by _ _ pins (λ pin is. pin_there f g pin.1 (same pin.1.store) is) all
 
-not_same : (b : Bool) → not b ≡ true → b ≡ false
-not_same true is = cc
-not_same false is = refl
-
 -- the pins of other stores
 pins_of_others : (family : FamilyState) (number : ℕ) (new : StoreState) → AllByRecursion (λ pin. IsPin family pin.1) family.pins
     → AllByRecursion (λ pin. IsPin (ended family number new) pin.1) (other_pins number family.pins)
 pins_of_others family number new all =
     all_passed _ _ (λ pin. not (pin.1.store == number)) family.pins
     (λ pin is other. pin_there family (ended family number new) pin.1
-    (let kept = cond-false (pin.1.store == number) new (family.stores pin.1.store) (not_same (pin.1.store == number) other) in
+    (let kept = cond-false (pin.1.store == number) new (family.stores pin.1.store) (not-true (pin.1.store == number) other) in
     record { open_too = ap is_open kept; opening_too = ap (λ (s : StoreState). s.opening) kept }) is)
     all
-
-both_ways : (b : Bool) → b ≡ true → b ≡ false → ⊥
-both_ways true is not = cc
-both_ways false is not = cc
 
 -- a store that isn't open has no pin
 pins_off : (family : FamilyState) (number : ℕ) (new : StoreState) → is_open (family.stores number) ≡ false
@@ -67,8 +59,8 @@ pins_off : (family : FamilyState) (number : ℕ) (new : StoreState) → is_open 
 pins_off family number new shut all =
     all_by _ _ family.pins
     (λ pin is. elim (cases_Bool (pin.1.store == number)) [
-      | inl same ↦ absurd (both_ways (is_open (family.stores number))
-          (subst (λ (n : ℕ). is_open (family.stores n) ≡ true) (same_numbers pin.1.store number same) is.there) shut)
+      | inl same ↦ absurd (both_ways (is_open (family.stores number)) shut
+          (subst (λ (n : ℕ). is_open (family.stores n) ≡ true) (eqb-true pin.1.store number same) is.there))
       | inr other ↦ pin_there family (with_store family number new) pin.1
           (let kept = cond-false (pin.1.store == number) new (family.stores pin.1.store) other in
           record { open_too = ap is_open kept; opening_too = ap (λ (s : StoreState). s.opening) kept }) is
@@ -195,9 +187,9 @@ opened_upto : (family : FamilyState) (number : ℕ) (ran : Ran) (store : ℕ) (j
     → (store == number) ≡ true → (family.stores store).opening ≤ ((line_after family (line.Open number) ran).stores store).opening
 opened_upto family number ran store None is same =
     subst (λ (n : ℕ). (family.stores store).opening ≤ ((line_after family (line.Open n) ran).stores store).opening)
-    (same_numbers store number same)
+    (eqb-true store number same)
     (one_upto _ _ (opening_rises family store ran
-    (subst (λ (n : ℕ). refusal_to family (line.Open n) ran ≡ None) (sym (same_numbers store number same)) is)))
+    (subst (λ (n : ℕ). refusal_to family (line.Open n) ran ≡ None) (sym (eqb-true store number same)) is)))
 opened_upto family number ran store (Some refusal) is same =
     same_upto _ _ (opening_kept family (line.Open number) ran refusal store is)
 

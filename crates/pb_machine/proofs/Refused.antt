@@ -1,6 +1,7 @@
 -- What refused lines leave.
 use Rattle.std.proofs.Common.{◌≡◌, ℕ, ◌+◌, ◌==◌, Bool, true, false, Option, Some, None, if◌then◌else◌, refl, sym, ap, ◌∙◌, subst}
 use Rattle.std.proofs.lemmas.Bool.{cond-true, cond-false}
+use Rattle.std.proofs.lemmas.Option.{same_Some}
 use Rattle.pb_rows.specs.Changing.{Changing}
 use Rattle.pb_reply.specs.declared.refusal.Refusal.{Refusal}
 use Rattle.pb_script.specs.declared.line.Lane.{Lane}
@@ -14,7 +15,7 @@ use Rattle.pb_machine.specs.After.{accepted, after_judged, beside, changed_store
 use Rattle.pb_machine.specs.Agreement.{HasFallen, IsStopped, SameHistory, opens}
 use Rattle.pb_machine.specs.Replies.{refusal_to}
 use Rattle.pb_machine.specs.Ran.{Ran}
-use Rattle.pb_machine.proofs.Stores.{kept_by, put_there, same_some, beside_stores, table_stores}
+use Rattle.pb_machine.proofs.Stores.{kept_by, put_there, beside_stores, table_stores}
 
 -- ---- relations that a refusal keeps
 
@@ -157,7 +158,7 @@ fallen_there : (family : FamilyState) (line : Line) (ran : Ran) (found : Option 
     ((if has_fallen_at family ran found then fallen_at family line ran found else withstood family line).stores store)
 fallen_there family line ran None store is fell = cc
 fallen_there family line ran (Some number) store is fell =
-    let same = same_some number store is in
+    let same = same_Some number store is in
     let there : has_fallen family ran number ≡ true = ap (has_fallen family ran) same ∙ fell in
     let new = fallen (pending_by family line ran) (family.stores number) in
     let after = fallen_at family line ran (Some number) in

@@ -1,6 +1,6 @@
 -- A store that isn't open waits for its opening.
 use Rattle.std.proofs.Common.{◌≡◌, ℕ, ◌==◌, Bool, true, false, not, Option, Some, None, if◌then◌else◌, refl, sym, ap, ◌∙◌, subst}
-use Rattle.std.proofs.lemmas.Bool.{cond-false}
+use Rattle.std.proofs.lemmas.Bool.{cond-false, both_ways}
 use Rattle.pb_rows.specs.Changing.{Changing}
 use Rattle.pb_keys.specs.Map.{Map}
 use Rattle.pb_reply.specs.declared.refusal.Refusal.{Refusal}
@@ -19,10 +19,6 @@ use Rattle.pb_machine.specs.Ran.{Ran}
 use Rattle.pb_machine.proofs.Causes.{close_finds, command_finds, no_cause, turn_finds}
 use Rattle.pb_machine.proofs.Refused.{Withstands, refused_keeps}
 use Rattle.pb_machine.proofs.Stores.{beside_stores, kept_by, put_there, table_stores}
-
-both_ways : (b : Bool) → b ≡ true → b ≡ false → ⊥
-both_ways true is not = cc
-both_ways false is not = cc
 
 as_it_is : (s : StoreState) → StaysShut s s
 as_it_is s shut = record { shut_too = shut; same = record { begun = refl; count = refl; map = refl } }
@@ -45,7 +41,7 @@ shut_withstands = record {
 
 -- a line that was accepted by an open store says nothing of one that isn't
 was_open : (s new : StoreState) → is_open s ≡ true → StaysShut s new
-was_open s new now shut = absurd (both_ways (is_open s) now shut)
+was_open s new now shut = absurd (both_ways (is_open s) shut now)
 
 same_store : (s new : StoreState) → new ≡ s → StaysShut s new
 same_store s new is = subst (StaysShut s) (sym is) (as_it_is s)

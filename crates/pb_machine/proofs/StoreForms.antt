@@ -1,6 +1,6 @@
 -- Each store stays in form.
 use Rattle.std.proofs.Common.{◌≡◌, ℕ, ◌<◌, ◌^◌, ◌==◌, Bool, true, false, Option, Some, None, IfSome, if◌then◌else◌, refl, sym, ap, ◌∙◌, subst, inl, inr, option_map}
-use Rattle.std.proofs.lemmas.Bool.{cases_Bool, cond-true, cond-false}
+use Rattle.std.proofs.lemmas.Bool.{cases_Bool, cond-true, cond-false, both_ways}
 use Rattle.pb_rows.specs.Changing.{Changing}
 use Rattle.pb_reply.specs.declared.refusal.Refusal.{Refusal}
 use Rattle.pb_reply.specs.declared.reply.Reply.TheVariants as reply
@@ -23,10 +23,6 @@ use Rattle.pb_machine.specs.Trail.{RanLine, count_in}
 use Rattle.pb_machine.specs.Ran.{Ran}
 use Rattle.pb_machine.proofs.Causes.{command_finds, turn_finds}
 use Rattle.pb_machine.proofs.Stores.{beside_stores, table_stores}
-
-both_ways : (b : Bool) → b ≡ true → b ≡ false → ⊥
-both_ways true is not = cc
-both_ways false is not = cc
 
 -- ---- counts
 
@@ -70,7 +66,7 @@ opened_form : (s : StoreState) (count : ℕ) → IsStoreState s → count < 2 ^ 
 opened_form s count form few =
     record {
       lanes =
-          λ shut. absurd (both_ways true refl shut);
+          λ shut. absurd (both_ways true shut refl);
       front = form.front;
       behind = form.behind;
       compacts = form.compacts;
@@ -112,7 +108,7 @@ going_form : (s : StoreState) (lane : Lane) (ran : Ran) → IsStoreState s → i
     → IsStoreState (with_lane s lane (option_map (going_on ran) (in_lane s lane)))
 going_form s Fg ran form now =
     record {
-      lanes = λ shut. absurd (both_ways (is_open s) now shut);
+      lanes = λ shut. absurd (both_ways (is_open s) shut now);
       front = going_started ran s.fg form.front;
       behind = form.behind;
       compacts = form.compacts;
@@ -120,7 +116,7 @@ going_form s Fg ran form now =
     }
 going_form s Bg ran form now =
     record {
-      lanes = λ shut. absurd (both_ways (is_open s) now shut);
+      lanes = λ shut. absurd (both_ways (is_open s) shut now);
       front = form.front;
       behind = going_started ran s.bg form.behind;
       compacts = going_compacts ran s.bg form.compacts;
@@ -151,7 +147,7 @@ started_form : (family : FamilyState) (s : StoreState) (command : Command) → i
     → IsStoreState (with_lane s (lane_of command) (Some (started_by family command)))
 started_form family s (command.Compact level lo hi) may form now =
     record {
-      lanes = λ shut. absurd (both_ways (is_open s) now shut);
+      lanes = λ shut. absurd (both_ways (is_open s) shut now);
       front = form.front;
       behind = λ _. refl;
       compacts = refl;
@@ -160,7 +156,7 @@ started_form family s (command.Compact level lo hi) may form now =
 started_form family s command.Release may form now = cc
 started_form family s command may form now =
     record {
-      lanes = λ shut. absurd (both_ways (is_open s) now shut);
+      lanes = λ shut. absurd (both_ways (is_open s) shut now);
       front = command_keeps family command;
       behind = form.behind;
       compacts = form.compacts;

@@ -1,7 +1,8 @@
 -- Which stores a line changes.
 use Rattle.std.proofs.Common.{◌≡◌, ℕ, ◌==◌, Bool, true, false, List, Option, Some, None, if◌then◌else◌, refl, sym, ap, ◌∙◌, subst, inl, inr, arith}
-use Rattle.std.proofs.lemmas.Bool.{cases_Bool, cond-true, cond-false}
+use Rattle.std.proofs.lemmas.Bool.{cases_Bool, cond-true, cond-false, eqb-true}
 use Rattle.std.proofs.lemmas.Bool.Decides.{nat_tests}
+use Rattle.std.proofs.lemmas.Option.{same_Some}
 use Rattle.pb_reply.specs.declared.refusal.Refusal.{Refusal}
 use Rattle.pb_script.specs.declared.command.Command.{Command}
 use Rattle.pb_script.specs.declared.command.Command.TheVariants as command
@@ -13,12 +14,6 @@ use Rattle.pb_machine.specs.After.{accepted, after_judged, beside, fallen_at, ha
 use Rattle.pb_machine.specs.Replies.{refusal_to}
 use Rattle.pb_machine.specs.Ran.{Ran}
 
-pub same_some : (a b : ℕ) → ◌≡◌ {A = Option ℕ} (Some a) (Some b) → a ≡ b
-same_some a b is = cc
-
-pub same_numbers : (a b : ℕ) → (a == b) ≡ true → a ≡ b
-same_numbers a b is = grind (arith, nat_tests)
-
 pub itself : (a : ℕ) → (a == a) ≡ true
 itself a = grind (arith, nat_tests)
 
@@ -29,7 +24,7 @@ put_there family number new = cond-true (number == number) new (family.stores nu
 pub other_kept : (family : FamilyState) (number store other : ℕ) (new : StoreState) → ◌≡◌ {A = Option ℕ} (Some number) (Some store)
     → (other == store) ≡ false → (with_store family number new).stores other ≡ family.stores other
 other_kept family number store other new is apart =
-    cond-false (other == number) new (family.stores other) (ap (λ (n : ℕ). other == n) (same_some number store is) ∙ apart)
+    cond-false (other == number) new (family.stores other) (ap (λ (n : ℕ). other == n) (same_Some number store is) ∙ apart)
 
 -- what holds of each store and of the one that is put, by what it was
 pub kept_by : (Kept : StoreState → StoreState → Type 0) (family : FamilyState) (number store : ℕ) (new : StoreState)
@@ -39,7 +34,7 @@ kept_by Kept family number store new changed same =
     elim (cases_Bool (store == number)) [
       | inl is ↦
           subst (λ (s : StoreState). Kept (family.stores store) s) (sym (cond-true (store == number) new (family.stores store) is))
-          (subst (λ (n : ℕ). Kept (family.stores n) new) (sym (same_numbers store number is)) changed)
+          (subst (λ (n : ℕ). Kept (family.stores n) new) (sym (eqb-true store number is)) changed)
       | inr other ↦
           subst (λ (s : StoreState). Kept (family.stores store) s) (sym (cond-false (store == number) new (family.stores store) other))
           (same (family.stores store))

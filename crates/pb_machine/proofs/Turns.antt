@@ -1,7 +1,7 @@
 -- A started command, in its last turn, does what the whole command does.
 use Rattle.std.proofs.Common.{◌≡◌, ℕ, ◌==◌, Bool, true, false, ◌&&◌, not, [], ◌∷◌, Option, Some, None, if◌then◌else◌, refl, sym, ap, ◌∙◌, subst}
 use Rattle.std.specs.Option.{option_or}
-use Rattle.std.proofs.lemmas.Bool.{cond-false}
+use Rattle.std.proofs.lemmas.Bool.{cond-false, eqb-true}
 use Rattle.pb_rows.specs.Changing.{Changing}
 use Rattle.pb_reply.specs.declared.refusal.Refusal.{Refusal}
 use Rattle.pb_reply.specs.declared.refusal.Refusal.TheVariants.{NoMemory, NotOpen}
@@ -19,7 +19,7 @@ use Rattle.pb_machine.specs.After.{accepted, after_judged, beside, changed_store
 use Rattle.pb_machine.specs.Replies.{changed_by, command_reply, is_no_memory, last_turn_reply, own_reply, refusal_to, reply_or, reply_to}
 use Rattle.pb_machine.specs.Ran.{Ran}
 use Rattle.pb_machine.proofs.Causes.{command_finds, no_cause}
-use Rattle.pb_machine.proofs.Stores.{put_there, same_numbers}
+use Rattle.pb_machine.proofs.Stores.{put_there}
 
 -- ---- a store that is put twice
 
@@ -33,7 +33,7 @@ put_again family number first second i = record family { stores = λ n. twice (n
 
 back_at : (family : FamilyState) (number n : ℕ) (first new : StoreState) (b : Bool) → (n == number) ≡ b → new ≡ family.stores number
     → (if b then new else (if b then first else family.stores n)) ≡ family.stores n
-back_at family number n first new true is same = same ∙ ap family.stores (sym (same_numbers n number is))
+back_at family number n first new true is same = same ∙ ap family.stores (sym (eqb-true n number is))
 back_at family number n first new false is same = refl
 
 put_back : (family : FamilyState) (number : ℕ) (first new : StoreState) → new ≡ family.stores number

@@ -1,9 +1,9 @@
 -- An excise adds nothing above what stays: each table that it leaves stood there, or is a part of one that went.
 use Rattle.std.proofs.Common.{◌≡◌, ℕ, ◌+◌, ◌<◌, ◌≤◌, List, [], ◌∷◌, ◌++◌, Bool, true, false, cond, length, zero, suc, refl, ap, sym, ◌∙◌, subst, arith, inl, inr}
-use Rattle.std.proofs.lemmas.Bool.Decides.{nat_tests}
 use Rattle.std.proofs.lemmas.List.Elements.{All-nil, All-cons, All-head, All-tail, All-append, All-contains, All-contains_itself, All-weaker}
 use Rattle.std.specs.Prelude.{◌⊎◌, not, ◌&&◌, nat_lt, slice_index_or, All, Contains}
 use Rattle.std.specs.List.{list_all}
+use Rattle.std.proofs.lemmas.Bool.{ltb-true}
 use Rattle.pb_keys.specs.Order.{is_below, is_upto, lesser, greater}
 use Rattle.pb_keys.specs.Span.{KeySpan, span_of, overlap}
 use Rattle.pb_keys.proofs.OrderFacts.{below_itself, below_one_way}
@@ -75,9 +75,6 @@ test_on q (ts ∷ ls) (suc level) e = test_on q ls level (right (list_all q ts) 
 
 -- ---- a table that the cut overlaps is gone
 
-is_lower : (m n : ℕ) → nat_lt m n ≡ true → m < n
-is_lower m n e = grind (arith, nat_tests)
-
 module _ (cut : KeySpan) (t : TableView) (is_cut : overlap t.view.bounds cut ≡ true) where
   abbrev IsOther : TableView → Type 0
   IsOther u = u ≡ t → ⊥
@@ -126,7 +123,7 @@ module _ (old : VersionView) (cut : KeySpan) (first level : ℕ) (unused : AreUn
       ¬ (Contains (tables_of_level new level) t)
   is_gone t is_cut below has =
       let low : t.number < first_on cut first old.levels level =
-      omega (arith, is_lower t.number first below, first_on_rises cut first old.levels level) in
+      omega (arith, ltb-true t.number first below, first_on_rises cut first old.levels level) in
       All-contains (λ u. u ≡ t → ⊥) (tables_of_level new level) t
       (subst (All (λ u. u ≡ t → ⊥)) (sym new_tables)
       (tables_other cut t is_cut (first_on cut first old.levels level) (tables_of_level old level) low)) has refl

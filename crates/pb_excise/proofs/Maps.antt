@@ -5,6 +5,7 @@ use Rattle.std.specs.Prelude.{not, ◌&&◌, ◌||◌, map, Some, None, unwrap_o
 use Rattle.std.specs.List.{list_any}
 use Rattle.std.specs.Option.{option_or}
 use Rattle.std.specs.FinMap.{empty, get, get-empty}
+use Rattle.std.proofs.Math.Bool.{or-true}
 use Rattle.pb_keys.specs.Key.{key_cmp}
 use Rattle.pb_keys.specs.Map.{Map, without}
 use Rattle.pb_keys.specs.Span.{KeySpan, holds_key, overlap}
@@ -24,10 +25,6 @@ use Rattle.pb_version.proofs.MeaningLaws.{map_of-newest_first}
 use Rattle.pb_excise.specs.Excised.{parts_of, numbered_parts, left_of, parts_count, excised_tables, excised_levels, excised}
 
 -- ---- verdicts under a cut
-
-or_true : (b : Bool) → (b || true) ≡ true
-or_true true = refl
-or_true false = refl
 
 -- one of two parts decides, or none does
 of_parts : (a b : Bool) (found : Verdict) → option_or (cond a found None) (cond b found None) ≡ cond (a || b) found None
@@ -83,7 +80,7 @@ module _ (layers : ℕ → KeyLayer) (cut : KeySpan) (key : List ℕ) where
       (λ i. option_or
       (verdict-narrower part t.view (layers t.backing) key
       (λ k h. within k (ap (λ b. b || list_any (λ other. holds_key other k) parts) h)) i)
-      (parts_say t (first + 1) parts (λ k h. within k (ap (λ b. holds_key part k || b) h ∙ or_true (holds_key part k))) i))
+      (parts_say t (first + 1) parts (λ k h. within k (ap (λ b. holds_key part k || b) h ∙ or-true (holds_key part k))) i))
       ∙ of_parts (holds_key part key) (list_any (λ other. holds_key other key) parts) (says t)
 
   within_table : (t : TableView) (k : List ℕ) → list_any (λ part. holds_key part k) (remains t.view.bounds cut) ≡ true →

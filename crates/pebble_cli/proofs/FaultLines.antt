@@ -2,16 +2,17 @@
 use Rattle.std.proofs.Common.{◌≡◌, ℕ, zero, suc, ◌+◌, ◌<◌, ◌≤◌, Bool, true, false, ◌&&◌, if◌then◌else◌, List, [], ◌∷◌, length, map, get_or, slice_get, drop, Option, Some, None, IsTrue, ◌↔◌, refl, sym, ap, ◌∙◌, arith}
 use Rattle.std.specs.List.{list_all}
 use Rattle.std.specs.Option.{option_or}
-use Rattle.std.proofs.lemmas.Bool.{cond-true, cond-false}
+use Rattle.std.proofs.lemmas.Bool.{cond-true, cond-false, and_from}
 use Rattle.std.proofs.lemmas.List.{length-map, length-drop}
 use Rattle.std.proofs.lemmas.List.Sums.{AllPass-from_list_all}
-use Rattle.pb_script.specs.Script.{NumberedRead, ScriptRead, Lines, Fault, as_read, lines_of, numbered, without_numbers}
+use Rattle.pb_script.specs.Script.{NumberedRead, Lines, as_read, lines_of, numbered, without_numbers}
 use Rattle.pb_script.specs.declared.command.Command.{Command}
 use Rattle.pb_script.specs.declared.command.Command.TheVariants.{Set, Get}
 use Rattle.pb_script.specs.declared.line.Line.{Line}
 use Rattle.pb_names.specs.Grammar.{IsName}
 use Rattle.pb_names.specs.Ranges.{is_name}
 use Rattle.pb_script.proofs.Names.{test_is}
+use Rattle.pb_script.proofs.Turns.{of_fault}
 use Rattle.pebble_cli.specs.Lines.{is_built, is_built_command, first_unbuilt, fault_of}
 
 pub length_same : (lines : List (ℕ × Line)) (place : ℕ) → place < length (without_numbers lines) → place < length lines
@@ -37,9 +38,6 @@ none_of : (first rest : Option ℕ) → option_or first rest ≡ None → (first
 none_of None rest is = (refl, is)
 none_of (Some number) rest is = cc
 
-abbrev of_fault : List (ℕ × Line) → Option ℕ → ScriptRead
-of_fault lines fault = elim fault [ None ↦ Lines (without_numbers lines) | Some number ↦ Fault number ]
-
 pub whole_read : (script : List ℕ) (read : NumberedRead) → read ≡ numbered script → fault_of read ≡ None
     → lines_of script ≡ Lines (without_numbers read.lines)
 unfolding lines_of
@@ -53,15 +51,11 @@ head_built : (test : Bool) (number : ℕ) (rest : Option ℕ) → (if test then 
 head_built true number rest is = (refl, is)
 head_built false number rest is = cc
 
-and_both : (a b : Bool) → a ≡ true → b ≡ true → (a && b) ≡ true
-and_both true b is other = other
-and_both false b is other = is
-
 all_built : (lines : List (ℕ × Line)) → first_unbuilt lines ≡ None → list_all is_built (without_numbers lines) ≡ true
 all_built [] none = refl
 all_built (line ∷ lines) none =
     let is = head_built (is_built line.1) line.0 (first_unbuilt lines) none in
-    and_both (is_built line.1) (list_all is_built (without_numbers lines)) is.0 (all_built lines is.1)
+    and_from (is_built line.1) (list_all is_built (without_numbers lines)) is.0 (all_built lines is.1)
 
 pub whole_built : (read : NumberedRead) → fault_of read ≡ None → list_all is_built (without_numbers read.lines) ≡ true
 whole_built read none = all_built read.lines (none_of (first_unbuilt read.lines) (option_or read.within read.fault) none).0

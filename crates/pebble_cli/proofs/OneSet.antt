@@ -134,6 +134,3 @@ one_set_task word left run is = ap (λ w. task_of (w ∷ []) left) run ∙ ap (t
 pub first_of : {X : Type 0} (xs : List X) → length xs ≡ 8 → (x : X) × (rest : List X) × (xs ≡ x ∷ rest)
 first_of [] eight = absurd (omega (arith, eight))
 first_of (x ∷ rest) eight = (x, rest, refl)
-
-pub first_same : {X : Type 0} (x y : X) (xs ys : List X) → x ∷ xs ≡ y ∷ ys → x ≡ y
-first_same x y xs ys e = cc

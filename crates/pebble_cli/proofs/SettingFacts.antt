@@ -1,8 +1,7 @@
 -- A payload spells one command at most.
-use Rattle.std.proofs.Common.{◌≡◌, ℕ, ◌<◌, ◌^◌, List, [], ◌∷◌, ◌++◌, length, take, drop, ◌-◌, Option, None, IfNone, refl, sym, ◌∙◌, subst, ap, arith, append-nil}
+use Rattle.std.proofs.Common.{◌≡◌, ℕ, ◌<◌, ◌^◌, List, [], ◌∷◌, ◌++◌, length, Option, None, IfNone, sym, ◌∙◌, subst, ap, arith, append-nil}
 use Rattle.pb_bytes.specs.Varint.{varint, field}
-use Rattle.std.proofs.lemmas.List.{take-append-drop}
-use Rattle.pb_bytes.proofs.ReadingLemmas.{one_varint, one_field, rest_of}
+use Rattle.pb_bytes.proofs.ReadingLemmas.{one_varint, one_field}
 use Rattle.pb_names.specs.Grammar.{IsName}
 use Rattle.pebble_cli.specs.Settings.{Set, IsSet, payload_of}
 
@@ -29,12 +28,11 @@ behind_field from content rest bytes more short low found spelled = (one_field c
 pub field_alone : (from bytes : List ℕ) → from ≡ field bytes → from ≡ field bytes ++ []
 field_alone from bytes e = e ∙ sym (append-nil (field bytes))
 
--- what is left behind a varint that was read is what was spelled behind the number
-pub behind_varint : (payload rest : List ℕ) (used read count : ℕ) → read < 2 ^ 64 → count < 2 ^ 62 → take used payload ≡ varint read → payload ≡ varint count ++ 1 ∷ rest → (read ≡ count) × (take (length payload - used) (drop used payload) ≡ 1 ∷ rest)
-behind_varint payload rest used read count fits low found spelled =
-    let whole : varint read ++ drop used payload ≡ payload = ap (λ front. front ++ drop used payload) (sym found) ∙ take-append-drop used payload in
-    let same = one_varint read count (drop used payload) (1 ∷ rest) fits (omega arith) (whole ∙ spelled) in
-    (same.0, rest_of used payload ∙ same.1)
+-- what stands behind a number that was read is what was spelled behind it
+pub behind_number : (payload behind rest : List ℕ) (read count : ℕ) → read < 2 ^ 62 → count < 2 ^ 62 → payload ≡ varint read ++ behind
+    → payload ≡ varint count ++ 1 ∷ rest → behind ≡ 1 ∷ rest
+behind_number payload behind rest read count below low found spelled =
+    (one_varint read count behind (1 ∷ rest) (omega arith) (omega arith) (sym found ∙ spelled)).1
 
 pub not_empty : (rest : List ℕ) → rest ≡ [] → (length rest ≡ 0 → ⊥) → ⊥
 not_empty rest e h = h (ap length e)

@@ -1,7 +1,7 @@
 -- What `clap` makes of the words of the usage.
 use Rattle.std.proofs.Common.{◌≡◌, ◌≢◌, ◌⊎◌, inl, inr, ap₂, Result, Ok, Err, IfOk, MatchResult, ℕ, Bool, true, false, ◌==◌, List, [], ◌∷◌, ◌++◌, Option, Some, None, codes, refl, sym, ap, ◌∙◌, subst}
 use Rattle.std.specs.Str.{bytes_eq}
-use Rattle.std.proofs.lemmas.Bool.{false≢true}
+use Rattle.std.proofs.lemmas.Bool.{false≢true, or_parts}
 use Rattle.std.proofs.lemmas.Slice.Eq.{bytes_eq-Decides}
 use Rattle.std.specs.Prelude.{◌&&◌, ◌||◌, if◌then◌else◌, option_and_then, option_map}
 use Rattle.std.specs.List.{list_any}
@@ -139,23 +139,15 @@ run_more word rest plain =
 
 -- ---- the words of the usage
 
-first_plain : (a b : Bool) → (a || b) ≡ false → a ≡ false
-first_plain true b e = cc
-first_plain false b e = refl
-
-others_plain : (a b : Bool) → (a || b) ≡ false → b ≡ false
-others_plain true b e = cc
-others_plain false b e = e
-
 by_first : (word : Text) (rest : List Text) → list_any is_flag (word ∷ rest) ≡ false → (b : Bool) → bytes_eq (codes "run") word ≡ b
     → has_none (fault_of app (word ∷ rest)) ≡ is_run (word ∷ rest)
 by_first word [] plain true is = subst (λ (w : Text). has_none (fault_of app (w ∷ [])) ≡ is_run (w ∷ [])) ((bytes_eq-Decides (codes "run") word).0 is) (ap has_none run_alone)
 by_first word (next ∷ rest) plain true is =
     subst (λ (w : Text). has_none (fault_of app (w ∷ next ∷ rest)) ≡ false) ((bytes_eq-Decides (codes "run") word).0 is)
-    (run_more next rest (first_plain (is_flag next) (list_any is_flag rest) (others_plain (is_flag word) (list_any is_flag (next ∷ rest)) plain)))
+    (run_more next rest (or_parts (is_flag next) (list_any is_flag rest) (or_parts (is_flag word) (list_any is_flag (next ∷ rest)) plain).1).0)
 by_first word [] plain false other =
-    stray_first word [] (first_plain (is_flag word) false plain) other ∙ sym (is_other word other)
-by_first word (next ∷ rest) plain false other = stray_first word (next ∷ rest) (first_plain (is_flag word) (list_any is_flag (next ∷ rest)) plain) other
+    stray_first word [] (or_parts (is_flag word) false plain).0 other ∙ sym (is_other word other)
+by_first word (next ∷ rest) plain false other = stray_first word (next ∷ rest) (or_parts (is_flag word) (list_any is_flag (next ∷ rest)) plain).0 other
 
 -- `clap` takes just the words of the usage
 pub taken_words : (words : List Text) → list_any is_flag words ≡ false → has_none (fault_of app words) ≡ is_run words

@@ -1,8 +1,8 @@
 ghost use Rattle.std.specs.Prelude.{◌≡◌, ◌<◌, ◌^◌, ◌++◌, ◌∷◌, IfSome, IfNone, IfOk, List, ℕ, length};
-ghost use Rattle.pb_bytes.specs.Varint.{varint, field};
+ghost use Rattle.pb_bytes.specs.Varint.{varint};
 ghost use Rattle.pebble_cli.specs.Settings.{Set, IsSet, payload_of};
 
-use pb_bytes::{put_field, put_varint, read_field, read_varint};
+use pb_bytes::{put_field, put_varint, split_field, split_number};
 use std::alloc::{AllocError, Global};
 
 /// Counts stand below this.
@@ -40,8 +40,8 @@ pub fn read_setting(payload: &[u8]) -> Option<Setting<'_>>
     ensures none { IfNone result ((set : Set) → IsSet set → payload.now ≡ payload_of set → ⊥) }
 {
     let (count, rest) = count_at(payload)?;
-    let (key, rest) = field_at(rest)?;
-    let (value, rest) = field_at(rest)?;
+    let (key, rest) = split_field(rest)?;
+    let (value, rest) = split_field(rest)?;
     if !rest.is_empty() {
         return None;
     }
@@ -54,20 +54,10 @@ fn count_at(payload: &[u8]) -> Option<(u64, &[u8])>
     ensures below { IfSome result (λ read. read.0 < 2 ^ 62) }
     ensures none { IfNone result ((count : ℕ) (rest : List ℕ) → count < 2 ^ 62 → payload.now ≡ varint count ++ 1 ∷ rest → ⊥) }
 {
-    let (count, used) = read_varint(payload)?;
-    let (kind, rest) = payload[used..].split_first()?;
-    if count >= COUNTS || *kind != SET {
+    let (count, behind) = split_number(payload)?;
+    let (kind, rest) = behind.split_first()?;
+    if *kind != SET {
         return None;
     }
     Some((count, rest))
-}
-
-// The field that begins bytes, and what stands behind it.
-fn field_at(from: &[u8]) -> Option<(&[u8], &[u8])>
-    ensures found { IfSome result (λ read. from.now ≡ field read.0.now ++ read.1.now) }
-    ensures short { IfSome result (λ read. length read.0.now < 2 ^ 64) }
-    ensures none { IfNone result ((bytes rest : List ℕ) → from.now ≡ field bytes ++ rest → ⊥) }
-{
-    let (bytes, used) = read_field(from)?;
-    Some((bytes, &from[used..]))
 }

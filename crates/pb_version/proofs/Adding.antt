@@ -15,7 +15,7 @@ use Rattle.pb_version.specs.Edited.{comes_before, physical_table, virtual_table,
 use Rattle.pb_version.specs.Rules.{has_backing, has_its_backing, has_virtual, is_plain_view, is_free, is_listed, is_reserved, are_all_apart, are_apart, are_distinct, each_pair, new_numbers, new_ranks, level_keeps_v4, keeps_v2, keeps_v3, keeps_v4, keeps_v6, keeps_v7, first_broken}
 use Rattle.pb_version.specs.Judged.{all_levels, any_level}
 use Rattle.pb_version.specs.Adding.{more_tables, tables_for, level_with, with_tables, is_unused, level_may_add, MayAdd, AreInForm}
-use Rattle.pb_version.proofs.Lists.{left, right, and_grouped, list_all_all_placed, list_any_all_placed}
+use Rattle.pb_version.proofs.Lists.{left, right, list_all_all_placed, list_any_all_placed}
 use Rattle.pb_version.proofs.Pairs.{weaker}
 use Rattle.pb_version.proofs.Levels.{any_append, list_all_flattened, list_any_flattened, all_each, any_each, each_of_each, levels_gives, levels_both, levels_all}
 use Rattle.pb_version.proofs.Commute.{all_placed_append}
@@ -23,9 +23,6 @@ use Rattle.pb_version.proofs.KeptFacts.{both_all}
 use Rattle.pb_version.proofs.Installing.{KeepsAll, unbroken_keeps}
 
 -- ---- booleans and lists
-
-two : (a b : Bool) → a ≡ true → b ≡ true → (a && b) ≡ true
-two a b e d = λ i. e i && d i
 
 not_or : (a b : Bool) → not a ≡ true → not b ≡ true → not (a || b) ≡ true
 not_or true b e d = cc

@@ -3,12 +3,13 @@ use Rattle.std.proofs.Common.{◌≡◌, ℕ, ◌+◌, ◌≤◌, List, [], ◌�
 use Rattle.std.proofs.lemmas.Bool.Decides.{nat_tests}
 use Rattle.std.specs.Prelude.{not, ◌==◌, ◌&&◌, ◌||◌, nat_lt, map}
 use Rattle.std.specs.List.{filter, list_any, list_all, AllByRecursion}
+use Rattle.std.proofs.lemmas.Bool.{eqb-true}
 use Rattle.pb_version.specs.Version.{TableView, flattened}
 use Rattle.pb_version.specs.Edited.{placed, all_placed, comes_before, each_level}
 use Rattle.pb_version.specs.Rules.{each_pair}
 use Rattle.pb_version.specs.State.{other_number}
 use Rattle.pb_version.specs.Judged.{seven, total}
-use Rattle.pb_version.proofs.Lists.{left, right, same_number}
+use Rattle.pb_version.proofs.Lists.{left, right}
 use Rattle.pb_version.proofs.Levels.{flattened_cons}
 
 abbrev pub one_if : Bool → ℕ
@@ -94,7 +95,7 @@ pub once : (ts : List TableView) → each_pair other_number ts ≡ true → (n :
 once [] e n = omega arith
 once (t ∷ ts) e n =
     elim (t.number == n) as (λ b. (t.number == n) ≡ b → one_if b + with_number n ts ≤ 1) [
-      | true ↦ λ k. omega (arith, none_with ts n (subst (λ m. list_all (λ (u : TableView). not (u.number == m)) ts ≡ true) (same_number t.number n k) (left (list_all (other_number t) ts) (each_pair other_number ts) e)))
+      | true ↦ λ k. omega (arith, none_with ts n (subst (λ m. list_all (λ (u : TableView). not (u.number == m)) ts ≡ true) (eqb-true t.number n k) (left (list_all (other_number t) ts) (each_pair other_number ts) e)))
       | false ↦ λ k. omega (arith, once ts (right (list_all (other_number t) ts) (each_pair other_number ts) e) n)
     ] refl
 

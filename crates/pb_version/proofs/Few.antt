@@ -2,8 +2,10 @@
 use Rattle.std.proofs.Common.{◌≡◌, ℕ, ◌+◌, ◌≤◌, suc, List, [], ◌∷◌, ◌++◌, Bool, true, false, cond, length, get_or, refl, ap, sym, ◌∙◌, arith, length-append, eq-eqb}
 use Rattle.std.proofs.lemmas.Bool.Decides.{nat_tests}
 use Rattle.std.proofs.lemmas.List.{length-map}
-use Rattle.std.specs.Prelude.{not, ◌==◌, ◌&&◌, ◌||◌, nat_lt, nat_le, map, slice_index_or}
+use Rattle.std.specs.Prelude.{not, ◌==◌, ◌&&◌, ◌||◌, nat_lt, map, slice_index_or}
 use Rattle.std.specs.List.{filter, list_any, list_all, AllByRecursion}
+use Rattle.std.proofs.Math.Bool.{or-true}
+use Rattle.std.proofs.lemmas.Bool.{eqb-true, leb-true}
 use Rattle.pb_edit.specs.Edit.{DeletedItem, CreatedItem, VersionEdit}
 use Rattle.pb_edit.specs.Grammar.{IsEdit, IsDeleted, Ascend, deleted_below, created_below}
 use Rattle.pb_version.specs.Version.{TableView, VersionView, all_tables, tables_of_level, flattened}
@@ -11,7 +13,7 @@ use Rattle.pb_version.specs.Edited.{comes_before, physical_table, virtual_table,
 use Rattle.pb_version.specs.Rules.{each_pair, has_number, has_backing, has_virtual, is_freed, is_reserved, is_backing_anew, keeps_v1, keeps_v5, keeps_v7, keeps_v9}
 use Rattle.pb_version.specs.State.{IsVersion}
 use Rattle.pb_version.specs.Judged.{seven, total}
-use Rattle.pb_version.proofs.Lists.{left, right, or_true, same_number, list_any_filter, length_all_placed}
+use Rattle.pb_version.proofs.Lists.{left, right, list_any_filter, length_all_placed}
 use Rattle.pb_version.proofs.Pairs.{weaker, filter_keeps, pairs_filter}
 use Rattle.pb_version.proofs.Levels.{flattened_cons, seven_map}
 use Rattle.pb_version.proofs.Counts.{count, length_count, in_one_level, same_length}
@@ -28,7 +30,7 @@ any_weaker p q gives [] e = cc
 any_weaker p q gives (x ∷ xs) e =
     elim (p x) as (λ b. p x ≡ b → (b || list_any p xs) ≡ true → (q x || list_any q xs) ≡ true) [
       | true ↦ λ k _. ap (λ b. b || list_any q xs) (gives x k)
-      | false ↦ λ _ later. ap (λ b. q x || b) (any_weaker p q gives xs later) ∙ or_true (q x)
+      | false ↦ λ _ later. ap (λ b. q x || b) (any_weaker p q gives xs later) ∙ or-true (q x)
     ] refl e
 
 no_more : {Y : Type 0} (g : Y → Bool) (ys : List Y) → length (filter (λ y. not (g y)) ys) ≤ length ys
@@ -119,9 +121,6 @@ deleted_levels : (ds : List DeletedItem) → AllByRecursion IsDeleted ds → All
 deleted_levels [] all = tt
 deleted_levels (d ∷ ds) all = (all.0.level, deleted_levels ds all.1)
 
-within : (m n : ℕ) → nat_le m n ≡ true → m ≤ n
-within m n e = grind (arith, nat_tests)
-
 seven_below : (a b : ℕ → ℕ) → ((l : ℕ) → a l ≤ b l) → total (seven a) ≤ total (seven b)
 seven_below a b less = omega (arith, less 0, less 1, less 2, less 3, less 4, less 5, less 6)
 
@@ -141,7 +140,7 @@ module _ (old : VersionView) (edit : VersionEdit) (form : IsEdit edit) (is : IsV
       (λ d e p q h. place_differs l d.level e.level d.number e.number p q h) (deleted_on l) (filter_passes (λ (d : DeletedItem). d.level == l) edit.deleted)
       (pairs_filter deleted_below (λ (d : DeletedItem). d.level == l) edit.deleted (ascend_pairs deleted_below deleted_chain edit.deleted form.deleted.ascend)))
       (weaker (λ (d : DeletedItem). d.level == l && has_number (tables_of_level old d.level) d.number) (λ (d : DeletedItem). has_number (tables_of_level old l) d.number)
-      (λ d e. ap (λ m. has_number (tables_of_level old m) d.number) (sym (same_number d.level l (left (d.level == l) (has_number (tables_of_level old d.level) d.number) e)))
+      (λ d e. ap (λ m. has_number (tables_of_level old m) d.number) (sym (eqb-true d.level l (left (d.level == l) (has_number (tables_of_level old d.level) d.number) e)))
       ∙ right (d.level == l) (has_number (tables_of_level old d.level) d.number) e) (deleted_on l)
       (both_all (λ (d : DeletedItem). d.level == l) (λ (d : DeletedItem). has_number (tables_of_level old d.level) d.number) (deleted_on l) (filter_passes (λ (d : DeletedItem). d.level == l) edit.deleted)
       (filter_keeps (λ (d : DeletedItem). has_number (tables_of_level old d.level) d.number) (λ (d : DeletedItem). d.level == l) edit.deleted kept)))
@@ -154,14 +153,14 @@ module _ (old : VersionView) (edit : VersionEdit) (form : IsEdit edit) (is : IsV
       ∙ sym (length_count edit.deleted) in
       let of_tables : total (seven (λ l. length (tables_of_level old l))) ≡ length (all_tables old) =
       ap total (seven_map length old.levels [] [] [] [] [] [] [] is.levels) ∙ sym (length_flattened old.levels) in
-      omega (arith, of_levels, of_tables, seven_below (λ l. length (deleted_on l)) (λ l. length (tables_of_level old l)) (level_few kept), within (length (all_tables old)) 4096 is.few)
+      omega (arith, of_levels, of_tables, seven_below (λ l. length (deleted_on l)) (λ l. length (tables_of_level old l)) (level_few kept), leb-true (length (all_tables old)) 4096 is.few)
 
   -- ---- new tables
 
   pub new_few : keeps_v9 old edit ≡ true → length edit.physical + length edit.virtuals ≤ 4096
   new_few kept = omega (
     arith,
-    within (length (all_tables (edited old edit))) 4096 kept,
+    leb-true (length (all_tables (edited old edit))) 4096 kept,
     same_length (all_tables (edited old edit)) (all_placed (comes_before 0) (new old edit) (stays old edit)) (after_same old edit (on_levels edit (spellable_edit edit form)) is.levels),
     length_all_placed (comes_before 0) (new old edit) (stays old edit),
     length-append (map physical_table edit.physical) (map (virtual_table (shown_backings old edit)) edit.virtuals),
@@ -187,7 +186,7 @@ module _ (old : VersionView) (edit : VersionEdit) (form : IsEdit edit) (is : IsV
       (always edit.created) (ascend_pairs created_below backings_chain edit.created form.created.ascend) in
       omega (
         arith,
-        within (length (all_tables (edited old edit))) 4096 few,
+        leb-true (length (all_tables (edited old edit))) 4096 few,
         pigeons (λ (c : CreatedItem). c.number) (λ (t : TableView). t.backing) edit.created (all_tables (edited old edit)) apart
             (weaker (λ c. is_backing_anew old edit c && has_backing edit.created c.number) (λ (c : CreatedItem). list_any (λ (t : TableView). t.backing == c.number) (all_tables (edited old edit)))
             (λ c e.
@@ -196,7 +195,7 @@ module _ (old : VersionView) (edit : VersionEdit) (form : IsEdit edit) (is : IsV
             (left (is_backing_anew old edit c) (has_backing edit.created c.number) e)) in
             let kept : not (is_removed edit c.number) ≡ true = not_both (has_backing old.backings c.number) (is_removed edit c.number) fresh
             (λ r. any_gives (λ n. n == c.number && has_backing old.backings n) (has_backing old.backings c.number)
-            (λ n d. ap (has_backing old.backings) (sym (same_number n c.number (left (n == c.number) (has_backing old.backings n) d))) ∙ right (n == c.number) (has_backing old.backings n) d)
+            (λ n d. ap (has_backing old.backings) (sym (eqb-true n c.number (left (n == c.number) (has_backing old.backings n) d))) ∙ right (n == c.number) (has_backing old.backings n) d)
             edit.removed (any_both (λ n. n == c.number) (has_backing old.backings) edit.removed r were)) in
             let there : has_backing (backings_after old edit) c.number ≡ true = has_after old edit c.number
             ∙ (λ i. (right (is_backing_anew old edit c) (has_backing edit.created c.number) e i || has_backing old.backings c.number) && kept i) in
@@ -214,7 +213,7 @@ module _ (old : VersionView) (edit : VersionEdit) (form : IsEdit edit) (is : IsV
 
       more_has : (c : CreatedItem) (cs ds : List CreatedItem) → list_all (λ (d : CreatedItem). has_backing cs d.number) ds ≡ true → list_all (λ (d : CreatedItem). has_backing (c ∷ cs) d.number) ds ≡ true
       more_has c cs ds e = weaker (λ (d : CreatedItem). has_backing cs d.number) (λ (d : CreatedItem). has_backing (c ∷ cs) d.number)
-          (λ d h. ap (λ b. c.number == d.number || b) h ∙ or_true (c.number == d.number)) ds e
+          (λ d h. ap (λ b. c.number == d.number || b) h ∙ or-true (c.number == d.number)) ds e
 
       has_own : (cs : List CreatedItem) → list_all (λ (c : CreatedItem). has_backing cs c.number) cs ≡ true
       has_own [] = refl
@@ -225,7 +224,7 @@ module _ (old : VersionView) (edit : VersionEdit) (form : IsEdit edit) (is : IsV
       let were = left (list_all (has_backing old.backings) edit.removed) (list_all (λ b. has_virtual (all_tables (edited old edit)) b.number) (backings_after old edit)) shown in
       omega (
         arith,
-        within (length (all_tables old)) 4096 is.few,
+        leb-true (length (all_tables old)) 4096 is.few,
         pigeons (λ n. n) (λ (t : TableView). t.backing) edit.removed (all_tables old)
             (pairs_weaker (λ n. true) nat_lt (λ m n. not (m == n)) (λ m n _ _ h. lower_differs m n h) edit.removed (always edit.removed)
             (ascend_pairs nat_lt numbers_chain edit.removed form.removed.ascend))

@@ -4,6 +4,7 @@ use Rattle.std.proofs.lemmas.Bool.Decides.{nat_tests}
 use Rattle.std.specs.Prelude.{not, ◌==◌, ◌&&◌, ◌||◌, nat_lt, nat_le, map, Some, None, slice_index_or, if◌then◌else◌}
 use Rattle.std.specs.List.{list_all}
 use Rattle.std.specs.FinMap.{empty}
+use Rattle.std.proofs.lemmas.Bool.{not-true}
 use Rattle.pb_edit.specs.Edit.{CreatedItem, VersionEdit}
 use Rattle.pb_keys.specs.Span.{KeySpan, overlap}
 use Rattle.pb_keys.proofs.Forms.{span_tests}
@@ -63,10 +64,6 @@ fit_parts a f n l g e k = grind (arith, nat_tests)
 five_fit : (a n f g count log : ℕ) → g ≡ 1 → f ≤ a → a ≤ count → log < n →
     (((nat_le a count && nat_le n n) && nat_le f count && nat_le g g) && (nat_le count count && nat_lt log n && g == 1) && (not (g == 0) || false)) ≡ true
 five_fit a n f g count log e fa ac ln = grind (arith, nat_tests)
-
-is_false : (b : Bool) → not b ≡ true → b ≡ false
-is_false true e = cc
-is_false false e = refl
 
 kept_bool : (v : Bool) → ((not v || true) || false) ≡ true
 kept_bool true = refl
@@ -130,7 +127,7 @@ module _ (v : VersionView) (count log number size : ℕ) (hull : KeySpan) where
       map (layer_of_table (with_layer layers number layer)) ts ≡ map (layer_of_table layers) ts
   other_layers layers layer [] e = refl
   other_layers layers layer (t ∷ ts) e =
-      λ i. viewed t.view (cond (is_false (t.backing == number) (left (not (t.backing == number)) (list_all (λ (u : TableView). not (u.backing == number)) ts) e) i) layer (layers t.backing))
+      λ i. viewed t.view (cond (not-true (t.backing == number) (left (not (t.backing == number)) (list_all (λ (u : TableView). not (u.backing == number)) ts) e) i) layer (layers t.backing))
       ∷ other_layers layers layer ts (right (not (t.backing == number)) (list_all (λ (u : TableView). not (u.backing == number)) ts) e) i
 
   pub map_kept : IsVersion v → list_all (λ (t : TableView). nat_lt t.rank number) (tables_of_level v 0) ≡ true → (layers : ℕ → KeyLayer) (layer : KeyLayer) → hull_of layer ≡ Some hull →

@@ -1,6 +1,6 @@
 -- What stands after an edit that was made ready is the version after the edit.
 use Rattle.std.proofs.Common.{◌≡◌, ◌+◌, ◌≤◌, ◌^◌, List, Bool, true, false, cond, length, refl, ap, sym, ◌∙◌, subst, arith, ℕ, suc, [], ◌∷◌, get_or, eq-eqb}
-use Rattle.std.proofs.lemmas.Bool.{lt-ltb, ltb-true}
+use Rattle.std.proofs.lemmas.Bool.{lt-ltb, ltb-true, eqb-true}
 use Rattle.std.proofs.lemmas.Bool.Decides.{nat_tests}
 use Rattle.std.proofs.lemmas.List.Folds.{list_all-map, list_all-append, list_any_at}
 use Rattle.std.proofs.lemmas.List.Elements.{recursion_from_All}
@@ -8,6 +8,7 @@ use Rattle.std.proofs.lemmas.List.Sums.{list_all-from_AllPass}
 use Rattle.std.specs.Option.{unwrap_or}
 use Rattle.std.specs.Prelude.{not, nat_lt, nat_le, Option, Some, None, ◌&&◌, ◌||◌, ◌==◌, map}
 use Rattle.std.specs.List.{filter, list_any, list_all, AllByRecursion}
+use Rattle.std.proofs.Math.Bool.{or-true, and-false}
 use Rattle.pb_edit.specs.Edit.{DeletedItem, PhysicalItem, VirtualItem, CreatedItem, VersionEdit}
 use Rattle.pb_edit.specs.Grammar.{IsPhysical, IsCreated, created_below}
 use Rattle.pb_bytes.specs.Number.{IsNumber}
@@ -18,7 +19,7 @@ use Rattle.pb_version.specs.Edited.{comes_before, physical_table, virtual_table,
 use Rattle.pb_version.specs.Rules.{each_pair, are_apart, are_all_apart, are_distinct, is_free, is_reserved, is_backing_anew, is_freed, is_freed_physical, level_keeps_v4, has_its_backing, has_number, has_backing, has_virtual, is_plain_view, none_of_four_falls, fit_each_other, has_all_five, new_numbers, new_ranks, keeps_v1, keeps_v2, keeps_v3, keeps_v4, keeps_v5, keeps_v6, keeps_v7, keeps_v8, keeps_v9, first_broken}
 use Rattle.pb_version.specs.State.{IsVersion, IsSpellable, PreparedEdit, Prepares, other_number, is_below_next, is_formed}
 use Rattle.pb_version.specs.Judged.{all_levels, any_level, each_two, is_gone, tables_after, HaveRoomFor}
-use Rattle.pb_version.proofs.Lists.{left, right, or_true, and_false, same_number, list_all_all_placed}
+use Rattle.pb_version.proofs.Lists.{left, right, list_all_all_placed}
 use Rattle.pb_version.proofs.Levels.{flattened_cons, list_all_flattened, all_each, each_of_each, two_of_each, levels_gives, levels_from, levels_both, levels_all}
 use Rattle.pb_version.proofs.Counts.{one_if, with_number, count_append, same_all, same_numbered, once, once_each, none_with, any_count, count_stays}
 use Rattle.pb_version.proofs.Ruled.{stays, new_each, after_same, has_after, of_backing, on_levels}
@@ -84,7 +85,7 @@ goes_with deleted c l (t ∷ ts) e =
       | true ↦ λ k. elim (t.number == c.number) as (λ b. (((not t.is_virtual && b) && t.size == c.size) || list_any (λ u. is_gone deleted l u && not u.is_virtual && u.number == c.number && u.size == c.size) ts) ≡ true →
           1 ≤ one_if b + with_number c.number (filter (is_gone deleted l) ts)) [
             | true ↦ λ _. omega arith
-            | false ↦ λ later. omega (arith, goes_with deleted c l ts (ap (λ b. (b && t.size == c.size) || list_any (λ u. is_gone deleted l u && not u.is_virtual && u.number == c.number && u.size == c.size) ts) (sym (and_false (not t.is_virtual))) ∙ later))
+            | false ↦ λ later. omega (arith, goes_with deleted c l ts (ap (λ b. (b && t.size == c.size) || list_any (λ u. is_gone deleted l u && not u.is_virtual && u.number == c.number && u.size == c.size) ts) (sym (and-false (not t.is_virtual))) ∙ later))
           ] k
       | false ↦ λ later. goes_with deleted c l ts later
     ] e
@@ -116,7 +117,7 @@ gone_or_new edit c ls numbered e =
 
 not_among : (b : Bool) (n : ℕ) → nat_lt 0 n ≡ true → (b ≡ true → (n == 0) ≡ true) → not b ≡ true
 not_among false n some none = refl
-not_among true n some none = let e : (n == 0) ≡ true = none refl in absurd (omega (arith, same_number n 0 e, lt_of n some))
+not_among true n some none = let e : (n == 0) ≡ true = none refl in absurd (omega (arith, eqb-true n 0 e, lt_of n some))
   where
     lt_of : (n : ℕ) → nat_lt 0 n ≡ true → 1 ≤ n
     lt_of n e = grind (arith, nat_tests)
@@ -396,7 +397,7 @@ module _ (old : VersionView) (edit : VersionEdit) (spellable : IsSpellable edit)
   then_fits =
       let e = right (none_of_four_falls old.five (five_after old.five edit)) (fit_each_other (five_after old.five edit))
       (left (none_of_four_falls old.five (five_after old.five edit) && fit_each_other (five_after old.five edit)) (not (old.five.format == 0) || has_all_five edit) keeps.v8) in
-      ap (λ b. (five_after old.five edit).format == 0 || b) e ∙ or_true ((five_after old.five edit).format == 0)
+      ap (λ b. (five_after old.five edit).format == 0 || b) e ∙ or-true ((five_after old.five edit).format == 0)
 
   -- what holds of all tables in another order
   in_turn : (q : TableView → Bool) → list_all q (all_placed (comes_before 0) new stay) ≡ true → list_all q (all_tables (edited old edit)) ≡ true

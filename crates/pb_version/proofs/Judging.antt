@@ -1,9 +1,9 @@
 -- The first broken rule, by the three stages in which the rules are judged.
 use Rattle.std.proofs.Common.{◌≡◌, ℕ, ◌+◌, ◌≤◌, List, [], ◌∷◌, Bool, true, false, cond, length, refl, ap, sym, ◌∙◌, subst, arith, inl, inr}
-use Rattle.std.proofs.lemmas.Bool.Decides.{nat_tests}
-use Rattle.std.specs.Prelude.{not, nat_le, Option, Some, None}
+use Rattle.std.specs.Prelude.{not, Option, Some, None}
 use Rattle.std.specs.List.{list_all}
 use Rattle.std.specs.Option.{option_or}
+use Rattle.std.proofs.lemmas.Bool.{leb-true}
 use Rattle.pb_edit.specs.Edit.{CreatedItem, VersionEdit}
 use Rattle.pb_version.specs.declared.broken.Broken.{Broken}
 use Rattle.pb_version.specs.declared.broken.Broken.TheVariants.{V3, V4, V5, V6, V7, V8, V9}
@@ -19,9 +19,6 @@ passes : (kept : Bool) (rule : Broken) (rest : Option Broken) → cond (not kept
 passes true rule rest e = (refl, e)
 passes false rule rest e = cc
 
-within : (m n : ℕ) → nat_le m n ≡ true → m ≤ n
-within m n e = grind (arith, nat_tests)
-
 -- the last rule judged is that on the number of tables
 pub few_tables : (levels : List (List TableView)) (backings : List CreatedItem) (old : FiveNumbers) (edit : VersionEdit) (made : List (List TableView)) (then : List CreatedItem) (five : FiveNumbers) (stays : List ℕ) →
     broken_against_new levels backings old edit made then five stays ≡ None → total (counts_after made stays) ≤ 4096
@@ -32,7 +29,7 @@ few_tables levels backings old edit made then five stays e =
     let p7 = passes (are_shown levels backings edit made) V7 _ p6.1 in
     let p8 = passes (fits_after old five edit) V8 _ p7.1 in
     let p9 = passes (fit_the_limit made stays) V9 _ p8.1 in
-    within (total (counts_after made stays)) 4096 p9.0
+    leb-true (total (counts_after made stays)) 4096 p9.0
 
 -- ---- room
 

@@ -3,6 +3,7 @@ use Rattle.std.proofs.Common.{◌≡◌, ℕ, List, [], ◌∷◌, Bool, true, f
 use Rattle.std.proofs.lemmas.Bool.Decides.{nat_tests}
 use Rattle.std.specs.Prelude.{not, ◌==◌, ◌&&◌, ◌||◌, nat_lt}
 use Rattle.std.specs.List.{list_all, AllByRecursion}
+use Rattle.std.proofs.lemmas.Bool.{eqb-true}
 use Rattle.pb_keys.specs.Order.{is_below}
 use Rattle.pb_keys.specs.Span.{overlap, is_span, is_end}
 use Rattle.pb_keys.proofs.OrderFacts.{below_one_way, below_chain, upto_below}
@@ -10,7 +11,7 @@ use Rattle.pb_version.specs.Version.{TableView}
 use Rattle.pb_version.specs.Edited.{comes_before}
 use Rattle.pb_version.specs.Rules.{each_pair, are_apart, is_plain_view, has_no_parts}
 use Rattle.pb_keys.specs.View.{is_mapping, is_view}
-use Rattle.pb_version.proofs.Lists.{left, right, same_number}
+use Rattle.pb_version.proofs.Lists.{left, right}
 use Rattle.pb_version.proofs.Commute.{Differ, AllDiffer, IsTransitive}
 
 -- ---- tables in order
@@ -48,7 +49,7 @@ other_rank m n false y e = grind (arith, nat_tests)
 differ_bool : (m n : ℕ) (x y : Bool) → ((m == n) ≡ true → y ≡ not x) → (nat_lt m n || (m == n && y)) ≡ not (nat_lt n m || (n == m && x))
 differ_bool m n x y f =
     elim (m == n) as (λ b. (m == n) ≡ b → (nat_lt m n || (b && y)) ≡ not (nat_lt n m || (n == m && x))) [
-      | true ↦ λ e. let s : y ≡ not x = f e in same_rank m n x y (same_number m n e) s
+      | true ↦ λ e. let s : y ≡ not x = f e in same_rank m n x y (eqb-true m n e) s
       | false ↦ λ e. other_rank m n x y e
     ] refl
 

@@ -1,10 +1,11 @@
 -- What an edit that breaks no rule leaves of numbers and backings.
-use Rattle.std.proofs.Common.{◌≡◌, ℕ, ◌≤◌, List, [], ◌∷◌, ◌++◌, length, Bool, true, false, cond, refl, ap, sym, ◌∙◌, arith}
+use Rattle.std.proofs.Common.{◌≡◌, ℕ, ◌≤◌, List, [], ◌∷◌, ◌++◌, length, Bool, true, false, cond, refl, ap, ◌∙◌, arith}
 use Rattle.std.proofs.lemmas.Bool.Decides.{nat_tests}
 use Rattle.std.proofs.lemmas.List.{map-append}
 use Rattle.std.specs.Prelude.{not, ◌==◌, ◌&&◌, ◌||◌, nat_lt, nat_le, Option, Some, None, IfSome, map}
 use Rattle.std.specs.List.{filter, list_any, list_all, AllByRecursion}
 use Rattle.std.specs.Option.{unwrap_or}
+use Rattle.std.proofs.lemmas.Bool.{eqb-true, not-true, or_parts}
 use Rattle.pb_edit.specs.Edit.{PhysicalItem, VirtualItem, CreatedItem, VersionEdit}
 use Rattle.pb_edit.specs.Grammar.{IsPhysical, IsCreated, created_below, Ascend}
 use Rattle.pb_bytes.specs.Number.{IsNumber}
@@ -12,7 +13,7 @@ use Rattle.pb_version.specs.Version.{TableView, FiveNumbers, size_of}
 use Rattle.pb_version.specs.Edited.{placed, all_placed, physical_table, virtual_table, tables_of, five_after}
 use Rattle.pb_version.specs.Rules.{has_backing}
 use Rattle.pb_version.specs.State.{AreNumbers, IsSpellable}
-use Rattle.pb_version.proofs.Lists.{left, right, same_number}
+use Rattle.pb_version.proofs.Lists.{left, right}
 use Rattle.pb_version.proofs.Commute.{Differ, AllDiffer, IsTransitive}
 
 pub below_more : (n r a b : ℕ) → (nat_lt n a && nat_lt r a) ≡ true → nat_le a b ≡ true → (nat_lt n b && nat_lt r b) ≡ true
@@ -105,25 +106,13 @@ passed : (r : Bool) (b : CreatedItem) (bs : List CreatedItem) (n : ℕ) → (b.n
 passed true b bs n e = refl
 passed false b bs n e = ap (λ t. cond t (Some b.size) (size_of bs n)) e
 
-not_true : (b : Bool) → not b ≡ true → b ≡ false
-not_true true e = sym e
-not_true false e = refl
-
-neither_left : (a b : Bool) → (a || b) ≡ false → a ≡ false
-neither_left true b e = e
-neither_left false b e = refl
-
-neither_right : (a b : Bool) → (a || b) ≡ false → b ≡ false
-neither_right true b e = cc
-neither_right false b e = e
-
 size_without : (rm : ℕ → Bool) (bs : List CreatedItem) (n : ℕ) → rm n ≡ false → size_of (filter (λ b. not (rm b.number)) bs) n ≡ size_of bs n
 size_without rm [] n e = refl
 size_without rm (b ∷ bs) n e =
     elim (b.number == n) as (λ t. (b.number == n) ≡ t →
     size_of (cond (not (rm b.number)) (b ∷ filter (λ c. not (rm c.number)) bs) (filter (λ c. not (rm c.number)) bs)) n ≡ cond t (Some b.size) (size_of bs n)) [
       | true ↦ λ k.
-          let stays : rm b.number ≡ false = ap rm (same_number b.number n k) ∙ e in
+          let stays : rm b.number ≡ false = ap rm (eqb-true b.number n k) ∙ e in
           ap (λ r. size_of (cond (not r) (b ∷ filter (λ c. not (rm c.number)) bs) (filter (λ c. not (rm c.number)) bs)) n) stays
           ∙ ap (λ t. cond t (Some b.size) (size_of (filter (λ c. not (rm c.number)) bs) n)) k
       | false ↦ λ k.
@@ -131,7 +120,7 @@ size_without rm (b ∷ bs) n e =
     ] refl
 
 pub size_kept : (rm : ℕ → Bool) (bs : List CreatedItem) (n : ℕ) → not (rm n) ≡ true → size_of (filter (λ b. not (rm b.number)) bs) n ≡ size_of bs n
-size_kept rm bs n e = size_without rm bs n (not_true (rm n) e)
+size_kept rm bs n e = size_without rm bs n (not-true (rm n) e)
 
 size_placed : (f : CreatedItem → CreatedItem → Bool) (c : CreatedItem) (bs : List CreatedItem) (n : ℕ) → (c.number == n) ≡ false → size_of (placed f c bs) n ≡ size_of bs n
 size_placed f c [] n e = ap (λ t. cond t (Some c.size) None) e
@@ -144,8 +133,8 @@ size_placed f c (b ∷ bs) n e =
 pub size_shown : (f : CreatedItem → CreatedItem → Bool) (cs bs : List CreatedItem) (n : ℕ) → has_backing cs n ≡ false → size_of (all_placed f cs bs) n ≡ size_of bs n
 size_shown f [] bs n e = refl
 size_shown f (c ∷ cs) bs n e =
-    size_placed f c (all_placed f cs bs) n (neither_left (c.number == n) (has_backing cs n) e)
-    ∙ size_shown f cs bs n (neither_right (c.number == n) (has_backing cs n) e)
+    size_placed f c (all_placed f cs bs) n (or_parts (c.number == n) (has_backing cs n) e).0
+    ∙ size_shown f cs bs n (or_parts (c.number == n) (has_backing cs n) e).1
 
 pub size_number : (bs : List CreatedItem) (n : ℕ) → AllByRecursion (λ b. IsNumber b.size) bs → IsNumber (unwrap_or (size_of bs n) 0)
 size_number [] n all = omega arith

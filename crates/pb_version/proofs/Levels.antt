@@ -5,12 +5,13 @@ use Rattle.std.proofs.lemmas.List.{append-nil}
 use Rattle.std.proofs.lemmas.List.Folds.{list_all-append}
 use Rattle.std.specs.Prelude.{not, ◌==◌, ◌&&◌, ◌||◌, map}
 use Rattle.std.specs.List.{list_any, list_all}
+use Rattle.pb_keys.proofs.Tests.{either_groups}
 use Rattle.pb_version.specs.Version.{TableView, flattened}
 use Rattle.pb_version.specs.Edited.{each_level}
 use Rattle.pb_edit.specs.Edit.{DeletedItem}
 use Rattle.pb_version.specs.State.{is_touched}
 use Rattle.pb_version.specs.Judged.{all_levels, any_level, each_two, seven, total, is_gone, stay, tables_after}
-use Rattle.pb_version.proofs.Lists.{left, right, or_grouped}
+use Rattle.pb_version.proofs.Lists.{left, right}
 
 -- ---- the tables of all levels
 
@@ -25,7 +26,7 @@ list_all_flattened q (xs ∷ xss) =
 
 pub any_append : {X : Type 0} (q : X → Bool) (xs ys : List X) → list_any q (xs ++ ys) ≡ (list_any q xs || list_any q ys)
 any_append q [] ys = refl
-any_append q (x ∷ xs) ys = ap (λ b. q x || b) (any_append q xs ys) ∙ sym (or_grouped (q x) (list_any q xs) (list_any q ys))
+any_append q (x ∷ xs) ys = ap (λ b. q x || b) (any_append q xs ys) ∙ sym (either_groups (q x) (list_any q xs) (list_any q ys))
 
 pub list_any_flattened : {X : Type 0} (q : X → Bool) (xss : List (List X)) → list_any q (flattened xss) ≡ list_any (λ xs. list_any q xs) xss
 list_any_flattened q [] = refl

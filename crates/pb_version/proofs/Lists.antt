@@ -1,39 +1,13 @@
 -- Tests over lists that were filtered, and over lists into which others were placed.
-use Rattle.std.proofs.Common.{◌≡◌, ℕ, ◌+◌, List, [], ◌∷◌, Bool, true, false, cond, length, suc, refl, ap, sym, ◌∙◌, arith}
-use Rattle.std.proofs.lemmas.Bool.Decides.{nat_tests}
-use Rattle.std.specs.Prelude.{not, ◌==◌, ◌&&◌, ◌||◌}
+use Rattle.std.proofs.Common.{◌≡◌, ◌+◌, List, [], ◌∷◌, Bool, true, false, cond, length, suc, refl, ap, sym, ◌∙◌, arith}
+use Rattle.std.specs.Prelude.{not, ◌&&◌, ◌||◌}
 use Rattle.std.specs.List.{filter, list_any, list_all}
+pub use Rattle.std.proofs.lemmas.Bool.{eqb-true as same_number}
+use Rattle.std.proofs.Math.Bool.{or-true, and-true, and-false}
+use Rattle.pb_keys.proofs.Tests.{both_groups, either_groups, either_swaps, or_false}
 use Rattle.pb_version.specs.Edited.{placed, all_placed}
 
 -- ---- booleans
-
-pub and_true : (b : Bool) → (b && true) ≡ b
-and_true true = refl
-and_true false = refl
-
-pub or_false : (b : Bool) → (b || false) ≡ b
-or_false true = refl
-or_false false = refl
-
-pub or_true : (b : Bool) → (b || true) ≡ true
-or_true true = refl
-or_true false = refl
-
-pub or_turned : (a b : Bool) → (a || b) ≡ (b || a)
-or_turned true b = sym (or_true b)
-or_turned false b = sym (or_false b)
-
-pub and_false : (b : Bool) → (b && false) ≡ false
-and_false true = refl
-and_false false = refl
-
-pub and_grouped : (a b c : Bool) → ((a && b) && c) ≡ (a && (b && c))
-and_grouped true b c = refl
-and_grouped false b c = refl
-
-pub or_grouped : (a b c : Bool) → ((a || b) || c) ≡ (a || (b || c))
-or_grouped true b c = refl
-or_grouped false b c = refl
 
 and_swapped : (a b c : Bool) → (a && (b && c)) ≡ (b && (a && c))
 and_swapped true true c = refl
@@ -41,15 +15,9 @@ and_swapped true false c = refl
 and_swapped false true c = refl
 and_swapped false false c = refl
 
-or_swapped : (a b c : Bool) → (a || (b || c)) ≡ (b || (a || c))
-or_swapped true true c = refl
-or_swapped true false c = refl
-or_swapped false true c = refl
-or_swapped false false c = refl
-
 or_of_ands : (a b c : Bool) → ((a && c) || (b && c)) ≡ ((a || b) && c)
 or_of_ands true b true = refl
-or_of_ands true b false = and_false b
+or_of_ands true b false = and-false b
 or_of_ands false b c = refl
 
 pub left : (a b : Bool) → (a && b) ≡ true → a ≡ true
@@ -60,21 +28,13 @@ pub right : (a b : Bool) → (a && b) ≡ true → b ≡ true
 right true b e = e
 right false b e = cc
 
-pub same_answer : (a b : Bool) → (a ≡ true → b ≡ true) → (b ≡ true → a ≡ true) → a ≡ b
-same_answer true b f g = sym (f refl)
-same_answer false true f g = g refl
-same_answer false false f g = refl
-
-pub same_number : (m n : ℕ) → (m == n) ≡ true → m ≡ n
-same_number m n e = grind (arith, nat_tests)
-
 -- ---- filtered lists
 
 pub list_all_filter : {X : Type 0} (q g : X → Bool) (xs : List X) → list_all q (filter (λ x. not (g x)) xs) ≡ list_all (λ x. q x || g x) xs
 list_all_filter q g [] = refl
 list_all_filter q g (x ∷ xs) =
     elim (g x) as (λ b. list_all q (cond (not b) (x ∷ filter (λ y. not (g y)) xs) (filter (λ y. not (g y)) xs)) ≡ ((q x || b) && list_all (λ y. q y || g y) xs)) [
-      | true ↦ list_all_filter q g xs ∙ sym (ap (λ b. b && list_all (λ y. q y || g y) xs) (or_true (q x)))
+      | true ↦ list_all_filter q g xs ∙ sym (ap (λ b. b && list_all (λ y. q y || g y) xs) (or-true (q x)))
       | false ↦ λ i. sym (or_false (q x)) i && list_all_filter q g xs i
     ]
 
@@ -82,8 +42,8 @@ pub list_any_filter : {X : Type 0} (q g : X → Bool) (xs : List X) → list_any
 list_any_filter q g [] = refl
 list_any_filter q g (x ∷ xs) =
     elim (g x) as (λ b. list_any q (cond (not b) (x ∷ filter (λ y. not (g y)) xs) (filter (λ y. not (g y)) xs)) ≡ ((q x && not b) || list_any (λ y. q y && not (g y)) xs)) [
-      | true ↦ list_any_filter q g xs ∙ sym (ap (λ b. b || list_any (λ y. q y && not (g y)) xs) (and_false (q x)))
-      | false ↦ λ i. sym (and_true (q x)) i || list_any_filter q g xs i
+      | true ↦ list_any_filter q g xs ∙ sym (ap (λ b. b || list_any (λ y. q y && not (g y)) xs) (and-false (q x)))
+      | false ↦ λ i. sym (and-true (q x)) i || list_any_filter q g xs i
     ]
 
 pub list_any_and : {X : Type 0} (q : X → Bool) (c : Bool) (xs : List X) → list_any (λ x. q x && c) xs ≡ (list_any q xs && c)
@@ -117,14 +77,14 @@ list_all_all_placed q f [] ys = refl
 list_all_all_placed q f (x ∷ xs) ys =
     list_all_placed q f x (all_placed f xs ys)
     ∙ ap (λ b. q x && b) (list_all_all_placed q f xs ys)
-    ∙ sym (and_grouped (q x) (list_all q xs) (list_all q ys))
+    ∙ sym (both_groups (q x) (list_all q xs) (list_all q ys))
 
 list_any_placed : {X : Type 0} (q : X → Bool) (f : X → X → Bool) (x : X) (ys : List X) → list_any q (placed f x ys) ≡ (q x || list_any q ys)
 list_any_placed q f x [] = refl
 list_any_placed q f x (y ∷ ys) =
     elim (f x y) as (λ b. list_any q (cond b (x ∷ y ∷ ys) (y ∷ placed f x ys)) ≡ (q x || (q y || list_any q ys))) [
       | true ↦ refl
-      | false ↦ ap (λ b. q y || b) (list_any_placed q f x ys) ∙ or_swapped (q y) (q x) (list_any q ys)
+      | false ↦ ap (λ b. q y || b) (list_any_placed q f x ys) ∙ either_swaps (q y) (q x) (list_any q ys)
     ]
 
 pub list_any_all_placed : {X : Type 0} (q : X → Bool) (f : X → X → Bool) (xs ys : List X) → list_any q (all_placed f xs ys) ≡ (list_any q xs || list_any q ys)
@@ -132,7 +92,7 @@ list_any_all_placed q f [] ys = refl
 list_any_all_placed q f (x ∷ xs) ys =
     list_any_placed q f x (all_placed f xs ys)
     ∙ ap (λ b. q x || b) (list_any_all_placed q f xs ys)
-    ∙ sym (or_grouped (q x) (list_any q xs) (list_any q ys))
+    ∙ sym (either_groups (q x) (list_any q xs) (list_any q ys))
 
 length_placed : {X : Type 0} (f : X → X → Bool) (x : X) (ys : List X) → length (placed f x ys) ≡ suc (length ys)
 length_placed f x [] = refl

@@ -1,8 +1,8 @@
 -- What new tables on top do to a map: their layers are the newest, in whatever order.
-use Rattle.std.proofs.Common.{◌≡◌, ℕ, ◌+◌, ◌-◌, ◌<◌, ◌≤◌, suc, List, [], ◌∷◌, ◌++◌, Bool, true, false, cond, length, get_or, reverse, refl, ap, sym, ◌∙◌, subst, arith, inl, inr, eq-eqb}
+use Rattle.std.proofs.Common.{◌≡◌, ℕ, ◌+◌, ◌-◌, ◌<◌, ◌≤◌, suc, List, [], ◌∷◌, ◌++◌, Bool, true, false, cond, length, reverse, refl, ap, sym, ◌∙◌, subst, arith, inl, inr, eq-eqb}
 use Rattle.std.proofs.lemmas.Bool.Decides.{nat_tests}
 use Rattle.std.proofs.lemmas.Bool.{cases_lt, not-true}
-use Rattle.std.proofs.lemmas.List.{map-append, get_or-reverse, length-reverse, reverse-reverse}
+use Rattle.std.proofs.lemmas.List.{map-append, reverse-reverse}
 use Rattle.std.proofs.lemmas.List.Elements.{All-cons, All-nil, All-head, All-tail}
 use Rattle.std.proofs.lemmas.List.Kept.{AllPairs-cons}
 use Rattle.std.specs.Prelude.{not, ◌==◌, ◌&&◌, ◌||◌, nat_lt, map, Option, Some, None, All, Contains, unwrap_or}
@@ -13,6 +13,8 @@ use Rattle.pb_edit.specs.Edit.{PhysicalItem}
 use Rattle.pb_keys.specs.Map.{Map}
 use Rattle.pb_keys.specs.Span.{KeySpan, span_of, holds_key, overlap}
 use Rattle.pb_keys.proofs.MapFacts.{same_pairs}
+use Rattle.pb_keys.proofs.Tests.{second_is_false}
+use Rattle.pb_keys.proofs.Lists.{in_reverse}
 use Rattle.pb_rows.specs.Applied.{applied_in_turn, applied_newest_first}
 use Rattle.pb_rows.specs.Hull.{hull_of, HullsApart, HaveSameLayers}
 use Rattle.pb_rows.specs.Layer.{KeyLayer}
@@ -29,7 +31,7 @@ use Rattle.pb_version.specs.Rules.{each_pair}
 use Rattle.pb_version.specs.Meaning.{layer_of_table, map_of}
 use Rattle.pb_version.specs.Judged.{all_levels}
 use Rattle.pb_version.specs.Adding.{tables_for, level_with, with_tables, is_under, level_is_under, is_on_top, IsOnTop, StandsOnTop, bounds_apart, AllStandOnTop, layers_of}
-use Rattle.pb_version.proofs.Lists.{left, right, list_all_all_placed, filter_all}
+use Rattle.pb_version.proofs.Lists.{left, right, list_all_all_placed}
 use Rattle.pb_version.proofs.Levels.{flattened_cons, each_of_each, levels_gives}
 use Rattle.pb_version.proofs.MeaningLaws.{map_of-newest_first}
 
@@ -40,10 +42,6 @@ silent_first a b c none = λ i. (ap (λ o. option_or b (option_or o c)) none ∙
 
 silent_second : (a b c : Verdict) → b ≡ None → option_or b (option_or a c) ≡ option_or a (option_or b c)
 silent_second a b c none = ap (λ o. option_or o (option_or a c)) none ∙ sym (ap (λ o. option_or a (option_or o c)) none)
-
-not_held : (a b : Bool) → (a && b) ≡ false → a ≡ true → b ≡ false
-not_held true b e d = e
-not_held false b e d = cc
 
 -- ---- one table
 
@@ -64,7 +62,7 @@ module _ (layers : ℕ → KeyLayer) (key : List ℕ) where
   apart_turns t u c apart =
       elim (holds_key t.view.bounds key) as (λ b. holds_key t.view.bounds key ≡ b → option_or (says u) (option_or (says t) c) ≡ option_or (says t) (option_or (says u) c)) [
         | true ↦ λ e. silent_second (says t) (says u) c (silent_outside u
-            (not_held (holds_key t.view.bounds key) (holds_key u.view.bounds key) (holds-apart t.view.bounds u.view.bounds key (not-true (overlap t.view.bounds u.view.bounds) apart)) e))
+            (second_is_false (holds_key t.view.bounds key) (holds_key u.view.bounds key) (holds-apart t.view.bounds u.view.bounds key (not-true (overlap t.view.bounds u.view.bounds) apart)) e))
         | false ↦ λ e. silent_first (says t) (says u) c (silent_outside t e)
       ] refl
 
@@ -243,14 +241,6 @@ still_on_top v p qs apart on =
 
 abbrev nothing : Map
 nothing = empty
-
-in_reverse : (xs : List KeyLayer) (layer : KeyLayer) → Contains xs layer → Contains (reverse xs) layer
-in_reverse xs layer has =
-    let k = has.0 in
-    let within : k < length xs = has.1 in
-    let long : length (reverse xs) ≡ length xs = length-reverse xs in
-    let back : length xs - 1 - (length xs - 1 - k) ≡ k = omega arith in
-    (length xs - 1 - k, omega arith, get_or-reverse xs (length xs - 1 - k) layer (omega arith) ∙ ap (λ n. get_or xs n layer) back ∙ has.2)
 
 module _ (v : VersionView) (layers : ℕ → KeyLayer) where
   pub verdicts_on_top : (ps : List PhysicalItem) → AllStandOnTop v layers ps → (key : List ℕ) →

@@ -3,17 +3,19 @@ use Rattle.std.proofs.Common.{◌≡◌, ℕ, List, [], ◌∷◌, ◌++◌, Boo
 use Rattle.std.proofs.lemmas.List.{map-append}
 use Rattle.std.specs.Prelude.{not, ◌==◌, ◌&&◌, ◌||◌, map}
 use Rattle.std.specs.List.{filter, list_any, list_all}
+use Rattle.std.proofs.lemmas.Bool.{eqb-true}
 use Rattle.pb_edit.specs.Edit.{PhysicalItem, VirtualItem, CreatedItem}
 use Rattle.pb_keys.specs.Order.{is_below}
 use Rattle.pb_keys.specs.Span.{overlap}
+use Rattle.pb_keys.proofs.Tests.{same_tests}
 use Rattle.pb_version.specs.Version.{TableView}
 use Rattle.pb_version.specs.Edited.{placed, all_placed, physical_table, virtual_table, tables_of}
 use Rattle.pb_version.specs.Rules.{each_pair, are_apart, are_distinct, is_listed, has_number}
 use Rattle.pb_version.specs.State.{other_number}
-use Rattle.pb_version.proofs.Lists.{left, right, same_answer, same_number, list_all_placed, list_all_all_placed}
+use Rattle.pb_version.proofs.Lists.{left, right, list_all_placed, list_all_all_placed}
 
 number_turned : (m n : ℕ) → (m == n) ≡ (n == m)
-number_turned m n = same_answer (m == n) (n == m) (λ e. eq-eqb n m (sym (same_number m n e))) (λ e. eq-eqb m n (sym (same_number n m e)))
+number_turned m n = same_tests (m == n) (n == m) (λ e. eq-eqb n m (sym (eqb-true m n e))) (λ e. eq-eqb m n (sym (eqb-true n m e)))
 
 and_turned : (a b : Bool) → (a && b) ≡ (b && a)
 and_turned true true = refl

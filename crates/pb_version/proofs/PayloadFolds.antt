@@ -1,10 +1,9 @@
 -- What the payloads of a manifest that are left say, behind the edits that were applied.
-use Rattle.std.proofs.Common.{◌≡◌, ℕ, ◌+◌, ◌<◌, Bool, false, List, [], ◌∷◌, map, length, get_or, drop, Result, Ok, Err, IfOk, refl, sym, ap, ◌∙◌, subst}
-use Rattle.std.proofs.lemmas.Bool.{false≢true}
-use Rattle.std.proofs.lemmas.List.{drop_more}
+use Rattle.std.proofs.Common.{◌≡◌, ℕ, List, [], ◌∷◌, map, Result, Ok, Err, IfOk, refl, sym, ap, ◌∙◌, subst}
 use Rattle.std.proofs.lemmas.List.Elements.{All-nil, All-cons, All-head, All-tail}
 use Rattle.std.specs.List.{All}
-use Rattle.std.specs.Prelude.{◌==◌, None}
+use Rattle.std.specs.Prelude.{None}
+use Rattle.pb_keys.proofs.Lists.{head_of, tail_of}
 use Rattle.pb_edit.specs.Edit.{VersionEdit}
 use Rattle.pb_edit.specs.Grammar.{IsEdit, edit_spelling}
 use Rattle.pb_edit.proofs.Edits.{one_edit}
@@ -16,13 +15,7 @@ use Rattle.pb_version.specs.SaysVersion.{SaysVersion}
 use Rattle.pb_version.specs.Follows.{Follows}
 
 -- the item that is read, and what it was made, stand first among those that are left
-pub item_first : {X : Type 0} (xs : List X) (i : ℕ) (x read : X) → i < length xs → x ≡ get_or xs i x → read ≡ x → drop i xs ≡ read ∷ drop (i + 1) xs
-item_first xs i x read within is same = drop_more xs i x within ∙ ap (λ y. y ∷ drop (i + 1) xs) (sym (same ∙ is))
-
 -- a list that was found not to be empty
-pub filled : {X : Type 0} (xs : List X) (test : Bool) → test ≡ (length xs == 0) → test ≡ false → xs ≡ [] → ⊥
-filled xs test is not none = false≢true (sym not ∙ is ∙ ap (λ ys. length ys == 0) none)
-
 pub if_ok : {T E : Type 0} (r : Result T E) (P Q : T → Type 0) → ((x : T) → P x → Q x) → IfOk r P → IfOk r Q
 if_ok (Ok x) P Q f h = f x h
 if_ok (Err e) P Q f h = h
@@ -35,12 +28,6 @@ pub record FoldsOn (old : VersionView) (payloads : List (List ℕ)) (new : Versi
   pub spelled : payloads ≡ map edit_spelling edits
   pub in_form : All IsEdit edits
   pub folds : FoldsFrom old edits new
-
-head_of : (x y : List ℕ) (xs ys : List (List ℕ)) → x ∷ xs ≡ y ∷ ys → x ≡ y
-head_of x y xs ys same = cc
-
-tail_of : (x y : List ℕ) (xs ys : List (List ℕ)) → x ∷ xs ≡ y ∷ ys → xs ≡ ys
-tail_of x y xs ys same = cc
 
 folds_behind : (payload : List ℕ) (rest : List (List ℕ)) (old mid new : VersionView) → Follows payload old mid → FoldsOn mid rest new
     → FoldsOn old (payload ∷ rest) new

@@ -5,6 +5,8 @@ use Rattle.std.proofs.lemmas.List.Sums.{AllPass-from_list_all, list_all-from_All
 use Rattle.std.specs.Prelude.{not, ◌==◌, ◌&&◌, ◌||◌, nat_lt, nat_le, map, Option, Some, None}
 use Rattle.std.specs.List.{filter, list_any, list_all, AllByRecursion}
 use Rattle.std.specs.Option.{option_or}
+use Rattle.std.proofs.lemmas.Bool.{eqb-true}
+use Rattle.pb_keys.proofs.Tests.{either_turns, both_groups, same_tests}
 use Rattle.pb_edit.specs.Edit.{PhysicalItem, VirtualItem, CreatedItem, VersionEdit}
 use Rattle.pb_edit.specs.Grammar.{IsPhysical, IsVirtual, created_below}
 use Rattle.pb_version.specs.declared.broken.Broken.{Broken}
@@ -14,7 +16,7 @@ use Rattle.pb_version.specs.Edited.{comes_before, physical_table, virtual_table,
 use Rattle.pb_version.specs.Rules.{has_number, has_backing, has_its_backing, has_virtual, is_plain_view, is_freed, are_all_apart, are_apart, are_distinct, is_reserved, new_numbers, new_ranks, level_keeps_v4, keeps_v1, keeps_v2, keeps_v3, keeps_v4, keeps_v5, keeps_v6, keeps_v7, keeps_v8, keeps_v9, first_broken}
 use Rattle.pb_version.specs.State.{IsVersion, IsSpellable}
 use Rattle.pb_version.specs.Judged.{all_levels, any_level, seven, total, made_for, is_gone, has_number_on, deletes_existing, are_numbered_anew, are_apart_after, level_is_apart, is_new_backing, keeps_its_backing, keep_their_backings, have_backings, is_still_shown, is_shown_after, orphans_no_backing, orphan_no_backing, is_created_shown, are_shown, stay, stay_counts, counts_after, fit_the_limit, broken_against_old, broken_against_new}
-use Rattle.pb_version.proofs.Lists.{or_turned, and_grouped, left, right, same_answer, same_number, list_all_filter, list_any_filter, list_any_and, list_all_same, list_all_all_placed, list_any_all_placed, length_all_placed}
+use Rattle.pb_version.proofs.Lists.{left, right, list_all_filter, list_any_filter, list_any_and, list_all_same, list_all_all_placed, list_any_all_placed, length_all_placed}
 use Rattle.pb_version.proofs.Pairs.{weaker}
 use Rattle.pb_version.proofs.Levels.{flattened_cons, any_append, list_all_flattened, list_any_flattened, all_each, any_each, two_of_each, levels_same, levels_from, each_is_seven, length_levels}
 use Rattle.pb_version.proofs.Counts.{count, Same, count_append, count_all_placed, count_map, count_flattened, count_levels, same_all, same_any, sum_two, in_one_level}
@@ -141,7 +143,7 @@ module _ (old : VersionView) (edit : VersionEdit) where
 of_number : (p : ℕ → Bool) (m n : ℕ) → (m == n && not (p m)) ≡ (m == n && not (p n))
 of_number p m n =
     elim (m == n) as (λ b. (m == n) ≡ b → (b && not (p m)) ≡ (b && not (p n))) [
-      | true ↦ λ e. ap (λ k. not (p k)) (same_number m n e)
+      | true ↦ λ e. ap (λ k. not (p k)) (eqb-true m n e)
       | false ↦ λ e. refl
     ] refl
 
@@ -184,14 +186,14 @@ pub of_backing : (p : ℕ → Bool) (backings : List CreatedItem) (n : ℕ) → 
 of_backing p [] n some all = cc
 of_backing p (b ∷ bs) n some all =
     elim (b.number == n) as (λ t. (b.number == n) ≡ t → (t || has_backing bs n) ≡ true → p n ≡ true) [
-      | true ↦ λ e _. sym (ap p (same_number b.number n e)) ∙ left (p b.number) (list_all (λ c. p c.number) bs) all
+      | true ↦ λ e _. sym (ap p (eqb-true b.number n e)) ∙ left (p b.number) (list_all (λ c. p c.number) bs) all
       | false ↦ λ e later. of_backing p bs n later (right (p b.number) (list_all (λ c. p c.number) bs) all)
     ] refl some
 
 leaves_bool : (v hb g r s : Bool) → (not v || hb) ≡ true → (hb ≡ true → (s || r) ≡ true) → (((not v || not g) || r) || s) ≡ true
 leaves_bool false hb g r s e f = refl
 leaves_bool true hb false r s e f = refl
-leaves_bool true hb true r s e f = or_turned r s ∙ f e
+leaves_bool true hb true r s e f = either_turns r s ∙ f e
 
 still_bool : (v e g r s l : Bool) → (v && e) ≡ true → (((not v || not g) || r) || s) ≡ true → ((s || r) || (((v && e) && not g) || l)) ≡ true
 still_bool false e g r s l m k = cc
@@ -232,7 +234,7 @@ module _ (g : TableView → Bool) (r s : ℕ → Bool) where
       elim (u.is_virtual && u.backing == n) as (λ t. (u.is_virtual && u.backing == n) ≡ t → (t || has_virtual us n) ≡ true →
       ((s n || r n) || (((u.is_virtual && u.backing == n) && not (g u)) || list_any (λ (w : TableView). (w.is_virtual && w.backing == n) && not (g w)) us)) ≡ true) [
         | true ↦ λ e _.
-            let same : u.backing ≡ n = same_number u.backing n (right u.is_virtual (u.backing == n) e) in
+            let same : u.backing ≡ n = eqb-true u.backing n (right u.is_virtual (u.backing == n) e) in
             still_bool u.is_virtual (u.backing == n) (g u) (r n) (s n) (list_any (λ (w : TableView). (w.is_virtual && w.backing == n) && not (g w)) us) e
             (subst (λ m. (((not u.is_virtual || not (g u)) || r m) || s m) ≡ true) same (left (leaves u) (list_all leaves us) all))
         | false ↦ λ e later.
@@ -278,7 +280,7 @@ module _ (old : VersionView) (edit : VersionEdit) where
       ∙ ap (λ f. any_level f 0 old.levels) (λ j l ts. list_any_filter shows (is_gone edit.deleted l) ts j)) i)
 
   still_then : (n : ℕ) → any_level (is_still_shown edit.deleted n) 0 old.levels ≡ true → shown_then n ≡ true
-  still_then n e = ap (λ b. list_any (λ ts. has_virtual ts n) (news old edit) || b) e ∙ or_turned (list_any (λ ts. has_virtual ts n) (news old edit)) true
+  still_then n e = ap (λ b. list_any (λ ts. has_virtual ts n) (news old edit) || b) e ∙ either_turns (list_any (λ ts. has_virtual ts n) (news old edit)) true
 
   module _ (is : IsVersion old) where
     leaves_each : list_all shown_or_removed old.backings ≡ true → (l : ℕ) (u : TableView) → has_its_backing old.backings u ≡ true → leaves_then l u ≡ true
@@ -293,7 +295,7 @@ module _ (old : VersionView) (edit : VersionEdit) where
         (still_then b.number)
 
     pub standing_shown : list_all shown_or_removed old.backings ≡ all_leave
-    standing_shown = same_answer (list_all shown_or_removed old.backings) all_leave
+    standing_shown = same_tests (list_all shown_or_removed old.backings) all_leave
         (λ all. levels_from (list_all (has_its_backing old.backings)) (orphan_no_backing old.levels edit.deleted edit.removed (news old edit))
         (λ l ts h. weaker (has_its_backing old.backings) (leaves_then l) (leaves_each all l) ts h)
         0 old.levels (sym (list_all_flattened (has_its_backing old.backings) old.levels) ∙ is.backed))
@@ -305,12 +307,12 @@ module _ (old : VersionView) (edit : VersionEdit) where
         ap (λ p. list_all p (after old edit)) (λ i (b : CreatedItem). shown_is on is b.number i)
         ∙ list_all_filter (λ (b : CreatedItem). shown_then b.number) (λ b. is_removed edit b.number) (all_placed created_below edit.created old.backings)
         ∙ list_all_all_placed shown_or_removed created_below edit.created old.backings
-        ∙ (λ i. list_all (λ (c : CreatedItem). or_turned (shown_then c.number) (is_removed edit c.number) i) edit.created && standing_shown i)
+        ∙ (λ i. list_all (λ (c : CreatedItem). either_turns (shown_then c.number) (is_removed edit c.number) i) edit.created && standing_shown i)
 
     pub v7 : OnLevels edit → keeps_v7 old edit ≡ are_shown old.levels old.backings edit (news old edit)
     v7 on =
         ap (λ b. list_all (has_backing old.backings) edit.removed && b) (all_shown on)
-        ∙ sym (and_grouped (list_all (has_backing old.backings) edit.removed) (list_all (is_created_shown old.levels edit (news old edit)) edit.created) all_leave)
+        ∙ sym (both_groups (list_all (has_backing old.backings) edit.removed) (list_all (is_created_shown old.levels edit (news old edit)) edit.created) all_leave)
 
 -- ---- all rules
 

@@ -4,6 +4,8 @@ use Rattle.std.proofs.lemmas.Bool.Decides.{nat_tests}
 use Rattle.std.proofs.lemmas.List.Folds.{list_all-append}
 use Rattle.std.specs.Prelude.{not, ◌==◌, ◌&&◌, ◌||◌, nat_lt, nat_le, map}
 use Rattle.std.specs.List.{filter, list_all, AllByRecursion}
+use Rattle.std.proofs.Math.Bool.{and-true}
+use Rattle.std.proofs.lemmas.Bool.{eqb-true, ltb-true}
 use Rattle.pb_edit.specs.Edit.{PhysicalItem, VirtualItem, CreatedItem}
 use Rattle.pb_edit.specs.Grammar.{IsField, IsPhysical, IsVirtual, IsCreated, Ascend, IsEdit, physical_below, virtual_below, created_below, edit_spelling}
 use Rattle.pb_bytes.specs.Number.{IsNumber}
@@ -14,7 +16,7 @@ use Rattle.pb_keys.specs.View.{is_view}
 use Rattle.pb_keys.specs.Span.{is_end, has_no_at}
 use Rattle.pb_version.specs.State.{IsVersion, IsSpellable, other_number, is_below_next}
 use Rattle.pb_version.specs.Snapshot.{physical_item, virtual_item, physical_items, virtual_items, snapshot_of}
-use Rattle.pb_version.proofs.Lists.{and_true, left, right, same_number, list_all_all_placed}
+use Rattle.pb_version.proofs.Lists.{left, right, list_all_all_placed}
 use Rattle.pb_version.proofs.Levels.{flattened_cons, list_all_flattened}
 use Rattle.pb_version.proofs.Ruled.{of_backing}
 use Rattle.pb_version.proofs.Kept.{view_span}
@@ -27,11 +29,8 @@ use Rattle.pb_version.proofs.Spelling.{at_each}
 
 -- ---- numbers and fields
 
-is_lower : (m n : ℕ) → nat_lt m n ≡ true → m < n
-is_lower m n e = grind (arith, nat_tests)
-
 lower_number : (m n : ℕ) → nat_lt m n ≡ true → IsNumber n → IsNumber m
-lower_number m n e h = omega (arith, is_lower m n e)
+lower_number m n e h = omega (arith, ltb-true m n e)
 
 short : (some plain : Bool) (n : ℕ) → (some && nat_le n 1025 && plain) ≡ true → n ≤ 1025
 short some plain n e = let within : nat_le n 1025 ≡ true = right some (nat_le n 1025) (left (some && nat_le n 1025) plain e) in grind (arith, nat_tests)
@@ -40,7 +39,7 @@ end_field : (bytes : List ℕ) → is_end bytes ≡ true → IsField bytes
 end_field bytes e = omega (arith, short (nat_le 1 (length bytes)) (has_no_at bytes) (length bytes) e)
 
 no_field : (bytes : List ℕ) → (length bytes == 0) ≡ true → IsField bytes
-no_field bytes e = omega (arith, same_number (length bytes) 0 e)
+no_field bytes e = omega (arith, eqb-true (length bytes) 0 e)
 
 record HasFields (t : TableView) : Type 0 where
   lo : IsField t.view.bounds.lo
@@ -191,15 +190,15 @@ all_virtual_on level (t ∷ ts) = λ i. eq-eqb level level refl i && all_virtual
 pub physical_on : (level : ℕ) (ts : List TableView) → list_all (λ (p : PhysicalItem). p.level == level) (physical_items level ts) ≡ true
 physical_on level ts =
     list_all_all_placed (λ (p : PhysicalItem). p.level == level) physical_below (map (physical_item level) (filter (λ t. not t.is_virtual) ts)) []
-    ∙ and_true _ ∙ all_physical_on level (filter (λ t. not t.is_virtual) ts)
+    ∙ and-true _ ∙ all_physical_on level (filter (λ t. not t.is_virtual) ts)
 
 pub virtual_on : (level : ℕ) (ts : List TableView) → list_all (λ (v : VirtualItem). v.level == level) (virtual_items level ts) ≡ true
 virtual_on level ts =
     list_all_all_placed (λ (v : VirtualItem). v.level == level) virtual_below (map (virtual_item level) (filter (λ t. t.is_virtual) ts)) []
-    ∙ and_true _ ∙ all_virtual_on level (filter (λ t. t.is_virtual) ts)
+    ∙ and-true _ ∙ all_virtual_on level (filter (λ t. t.is_virtual) ts)
 
 on_above : (m k : ℕ) → (m == k) ≡ true → k ≤ m
-on_above m k e = omega (arith, same_number m k e)
+on_above m k e = omega (arith, eqb-true m k e)
 
 is_above : (l m k : ℕ) → k < l → (m == l) ≡ true → nat_lt k m ≡ true
 is_above l m k h e = grind (arith, nat_tests)
@@ -225,7 +224,7 @@ module _ {Y : Type 0} (level : Y → ℕ) (f : ℕ → List TableView → List Y
         (sorted_levels (k + 1) ls (pairs_back other_number ts (flattened ls) numbered))
         (weaker (λ x. level x == k) (λ x. list_all (below x) (flattened (each_level f (k + 1) ls)))
         (λ x here. weaker (λ y. nat_lt k (level y)) (below x)
-        (λ y there. by_level x y (subst (λ n. nat_lt n (level y) ≡ true) (sym (same_number (level x) k here)) there))
+        (λ y there. by_level x y (subst (λ n. nat_lt n (level y) ≡ true) (sym (eqb-true (level x) k here)) there))
         (flattened (each_level f (k + 1) ls)) (levels_above k (k + 1) ls (omega arith))) (f k ts) (on k ts))
 
 -- ---- the snapshot

@@ -3,6 +3,7 @@ use Rattle.std.proofs.Common.{◌≡◌, ℕ, List, [], ◌∷◌, Bool, true, f
 use Rattle.std.specs.Prelude.{not, ◌==◌, map}
 use Rattle.std.specs.List.{filter, list_all}
 use Rattle.std.specs.Option.{unwrap_or}
+use Rattle.std.proofs.lemmas.Bool.{eqb-true}
 use Rattle.pb_edit.specs.Edit.{CreatedItem}
 use Rattle.pb_edit.specs.Grammar.{physical_below, virtual_below}
 use Rattle.pb_version.specs.Version.{TableView, size_of}
@@ -11,7 +12,7 @@ use Rattle.pb_version.specs.Rules.{each_pair, are_apart, is_plain_view, has_no_p
 use Rattle.pb_keys.specs.View.{is_view}
 use Rattle.pb_version.specs.State.{is_formed}
 use Rattle.pb_version.specs.Snapshot.{physical_item, virtual_item, physical_items, virtual_items}
-use Rattle.pb_version.proofs.Lists.{left, right, same_number}
+use Rattle.pb_version.proofs.Lists.{left, right}
 use Rattle.pb_version.proofs.Pairs.{filter_keeps, pairs_filter}
 use Rattle.pb_version.proofs.Kept.{tables_chain, all_tables_differ}
 use Rattle.pb_version.proofs.Commute.{AllDiffer, all_placed_append, images_placed, placed_in_parts, sorted_stays}
@@ -20,7 +21,7 @@ use Rattle.pb_version.proofs.Commute.{AllDiffer, all_placed_append, images_place
 
 nothing : (bytes : List ℕ) → (length bytes == 0) ≡ true → [] ≡ bytes
 nothing [] e = refl
-nothing (b ∷ bs) e = let same : suc (length bs) ≡ 0 = same_number (suc (length bs)) 0 e in cc
+nothing (b ∷ bs) e = let same : suc (length bs) ≡ 0 = eqb-true (suc (length bs)) 0 e in cc
 
 no_prefix : (t : TableView) → is_plain_view t.view ≡ true → [] ≡ t.view.prefix
 no_prefix t e = nothing t.view.prefix (left (length t.view.prefix == 0) (length t.view.suffix == 0) (right (is_view t.view) (has_no_parts t.view) e))
@@ -40,7 +41,7 @@ other_chosen false a b e k = k
 physical_again : (level : ℕ) (bs : List CreatedItem) (t : TableView) → t.is_virtual ≡ false → is_formed bs t ≡ true → is_plain_view t.view ≡ true → physical_table (physical_item level t) ≡ t
 physical_again level bs t physical formed view =
     let backing : t.number ≡ t.backing =
-    sym (same_number t.backing t.number (other_chosen t.is_virtual (unwrap_or (size_of bs t.backing) 0 == t.size) (t.backing == t.number) physical formed)) in
+    sym (eqb-true t.backing t.number (other_chosen t.is_virtual (unwrap_or (size_of bs t.backing) 0 == t.size) (t.backing == t.number) physical formed)) in
     λ i. record {
       number = t.number;
       rank = t.rank;
@@ -53,7 +54,7 @@ physical_again level bs t physical formed view =
 virtual_again : (level : ℕ) (bs : List CreatedItem) (t : TableView) → t.is_virtual ≡ true → is_formed bs t ≡ true → virtual_table bs (virtual_item level t) ≡ t
 virtual_again level bs t is_virtual formed =
     let size : unwrap_or (size_of bs t.backing) 0 ≡ t.size =
-    same_number (unwrap_or (size_of bs t.backing) 0) t.size (chosen t.is_virtual (unwrap_or (size_of bs t.backing) 0 == t.size) (t.backing == t.number) is_virtual formed) in
+    eqb-true (unwrap_or (size_of bs t.backing) 0) t.size (chosen t.is_virtual (unwrap_or (size_of bs t.backing) 0 == t.size) (t.backing == t.number) is_virtual formed) in
     λ i. record {
       number = t.number;
       rank = t.rank;

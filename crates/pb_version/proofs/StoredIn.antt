@@ -4,13 +4,14 @@ use Rattle.std.proofs.lemmas.List.Folds.{list_any_at}
 use Rattle.std.proofs.lemmas.Map.Views.{Contains-from_any}
 use Rattle.std.specs.Prelude.{◌==◌, ◌&&◌, ◌↔◌, nat_lt, map, Contains, length}
 use Rattle.std.specs.List.{filter, list_any, AllByRecursion}
+use Rattle.std.proofs.lemmas.Bool.{eqb-true}
 use Rattle.pb_edit.specs.Edit.{PhysicalItem, CreatedItem}
 use Rattle.pb_version.specs.Version.{TableView, VersionView, all_tables, flattened}
 use Rattle.pb_version.specs.Edited.{comes_before, physical_table, each_level}
 use Rattle.pb_version.specs.Stored.{backing_of, stored_in}
 use Rattle.pb_version.specs.Adding.{tables_for, with_tables}
 use Rattle.pb_version.specs.Judged.{seven, total}
-use Rattle.pb_version.proofs.Lists.{left, right, same_number}
+use Rattle.pb_version.proofs.Lists.{left, right}
 use Rattle.pb_version.proofs.Levels.{each_is_seven}
 use Rattle.pb_version.proofs.Counts.{count, count_append, count_map, count_flattened, count_levels, any_count, in_one_level}
 
@@ -19,8 +20,8 @@ same_item a b = a.number == b.number && a.size == b.size
 
 item_says : (a b : CreatedItem) → same_item a b ≡ true → a ≡ b
 item_says a b e = λ i. record {
-  number = same_number a.number b.number (left (a.number == b.number) (a.size == b.size) e) i;
-  size = same_number a.size b.size (right (a.number == b.number) (a.size == b.size) e) i;
+  number = eqb-true a.number b.number (left (a.number == b.number) (a.size == b.size) e) i;
+  size = eqb-true a.size b.size (right (a.number == b.number) (a.size == b.size) e) i;
 }
 
 item_itself : (a b : CreatedItem) → a ≡ b → same_item b a ≡ true

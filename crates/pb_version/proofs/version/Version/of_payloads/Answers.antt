@@ -1,7 +1,8 @@
 use Rattle.std.proofs.Common.{◌≡◌, ◌+◌, ◌∷◌, [], ℕ, List, drop, sym, subst}
 use Rattle.std.proofs.lemmas.List.{drop_all}
+use Rattle.pb_keys.proofs.Lists.{item_first, filled}
 use Rattle.pb_version.specs.Version.{empty_version}
-use Rattle.pb_version.proofs.PayloadFolds.{AlikeOn, FoldsOn, filled, item_first, alike_more, next_edit, none_left, on_says, says_on}
+use Rattle.pb_version.proofs.PayloadFolds.{AlikeOn, FoldsOn, alike_more, next_edit, none_left, on_says, says_on}
 use Rattle.pb_version.proofs.version.Version.of_payloads.Goals as goal
 
 pub returns-then-not-branch-clause-none : goal.returns-then-not-branch-clause-none

@@ -93,11 +93,11 @@ module _ (v : VersionView) (count log number size : ℕ) (hull : KeySpan) where
   level_same : (k : ℕ) (ts : List TableView) → 1 ≤ k → level_after v edit k ts ≡ ts
   level_same k ts h = ap (λ b. all_placed (comes_before k) (new_if b) (staying edit k ts)) (deeper_not k h) ∙ filter_all (λ (t : TableView). true) ts (always ts)
 
-  levels_same_after : (k : ℕ) (ls : List (List TableView)) → 1 ≤ k → each_level (level_after v edit) k ls ≡ ls
+  pub levels_same_after : (k : ℕ) (ls : List (List TableView)) → 1 ≤ k → each_level (level_after v edit) k ls ≡ ls
   levels_same_after k [] h = refl
   levels_same_after k (ts ∷ ls) h = λ i. level_same k ts h i ∷ levels_same_after (k + 1) ls (omega arith) i
 
-  first_level : (ts : List TableView) → list_all (λ (t : TableView). nat_lt t.rank number) ts ≡ true → level_after v edit 0 ts ≡ table ∷ ts
+  pub first_level : (ts : List TableView) → list_all (λ (t : TableView). nat_lt t.rank number) ts ≡ true → level_after v edit 0 ts ≡ table ∷ ts
   first_level ts e =
       ap (placed (comes_before 0) table) (filter_all (λ (t : TableView). true) ts (always ts))
       ∙ first_placed (comes_before 0) table ts (weaker (λ (t : TableView). nat_lt t.rank number) (comes_before 0 table) (λ t k. ap (λ b. b || (t.rank == number && starts_below table t)) k) ts e)

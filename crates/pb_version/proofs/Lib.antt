@@ -27,3 +27,5 @@ pub mod Few
 pub mod Short
 pub mod Views
 pub mod Untouched
+pub mod InTurn
+pub mod Above

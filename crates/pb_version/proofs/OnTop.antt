@@ -53,12 +53,12 @@ module _ (layers : ℕ → KeyLayer) (key : List ℕ) where
   all_say ts = verdicts (map (layer_of_table layers) ts) key
 
   -- outside its bounds a table says nothing
-  silent_outside : (t : TableView) → holds_key t.view.bounds key ≡ false → says t ≡ None
+  pub silent_outside : (t : TableView) → holds_key t.view.bounds key ≡ false → says t ≡ None
   unfolding viewed
   silent_outside t outside = verdict-bounded t.view.bounds (mapped t.view (layers t.backing)) key ∙ ap (λ b. cond b (verdict (mapped t.view (layers t.backing)) key) None) outside
 
   -- of two tables whose bounds don't overlap one is silent, so their order doesn't matter
-  apart_turns : (t u : TableView) (c : Verdict) → not (overlap t.view.bounds u.view.bounds) ≡ true → option_or (says u) (option_or (says t) c) ≡ option_or (says t) (option_or (says u) c)
+  pub apart_turns : (t u : TableView) (c : Verdict) → not (overlap t.view.bounds u.view.bounds) ≡ true → option_or (says u) (option_or (says t) c) ≡ option_or (says t) (option_or (says u) c)
   apart_turns t u c apart =
       elim (holds_key t.view.bounds key) as (λ b. holds_key t.view.bounds key ≡ b → option_or (says u) (option_or (says t) c) ≡ option_or (says t) (option_or (says u) c)) [
         | true ↦ λ e. silent_second (says t) (says u) c (silent_outside u
@@ -66,7 +66,7 @@ module _ (layers : ℕ → KeyLayer) (key : List ℕ) where
         | false ↦ λ e. silent_first (says t) (says u) c (silent_outside t e)
       ] refl
 
-  all_append : (ts us : List TableView) → all_say (ts ++ us) ≡ option_or (all_say ts) (all_say us)
+  pub all_append : (ts us : List TableView) → all_say (ts ++ us) ≡ option_or (all_say ts) (all_say us)
   all_append ts us = ap (λ ls. verdicts ls key) (map-append (layer_of_table layers) ts us) ∙ verdicts-append (map (layer_of_table layers) ts) (map (layer_of_table layers) us) key
 
   -- tables that a table doesn't overlap may come before it

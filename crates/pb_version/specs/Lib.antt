@@ -13,3 +13,5 @@ pub mod Stored
 pub mod Flush
 pub mod Items
 pub mod Adding
+pub mod InTurn
+pub mod Above

@@ -24,8 +24,13 @@ ghost use Rattle.pb_version.specs.Examples.{first_edit, edit_without_format, new
 
 use super::Broken;
 
+mod above;
 mod on_top;
 
+pub use above::{
+    a_flush_adds_above, adding_above_joins, levels_say_in_turn, same_tables_add_above,
+    tables_apart_say_alone,
+};
 pub use on_top::{
     all_on_top, more_tables_break_no_rule, on_top_is_applied, stored_tables, tables_come_last,
     the_lesser_level_counts, what_is_on_top,

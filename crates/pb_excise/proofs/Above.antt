@@ -12,7 +12,8 @@ use Rattle.pb_version.specs.Version.{TableView, VersionView, tables_of_level, al
 use Rattle.pb_version.proofs.Lists.{left, right}
 use Rattle.pb_version.proofs.Levels.{list_all_flattened}
 use Rattle.pb_excise.specs.Excised.{parts_of, part_table, numbered_parts, left_of, parts_count, excised_tables, excised_levels, excised}
-use Rattle.pb_excise.specs.Above.{lies_within, IsPartOf, ReplacesOne, MayStand, AddsAbove, AreUnusedFrom}
+use Rattle.pb_version.specs.Above.{lies_within, IsPartOf, ReplacesOne, MayStand, AddsAbove}
+use Rattle.pb_excise.specs.Unused.{AreUnusedFrom}
 
 -- ---- parts lie within their table
 

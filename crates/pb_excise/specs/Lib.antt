@@ -1,3 +1,3 @@
 pub mod Excised
-pub mod Above
+pub mod Unused
 pub mod Examples

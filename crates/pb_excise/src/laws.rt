@@ -6,8 +6,9 @@ ghost use Rattle.pb_rows.specs.Layer.{KeyLayer};
 ghost use Rattle.pb_version.specs.Version.{VersionView, all_tables};
 ghost use Rattle.pb_version.specs.Meaning.{map_of};
 ghost use Rattle.pb_version.specs.Stored.{stored_in};
+ghost use Rattle.pb_version.specs.Above.{AddsAbove};
 ghost use Rattle.pb_excise.specs.Excised.{excised, ShowsWhatStood};
-ghost use Rattle.pb_excise.specs.Above.{AddsAbove, AreUnusedFrom};
+ghost use Rattle.pb_excise.specs.Unused.{AreUnusedFrom};
 ghost use Rattle.pb_excise.specs.Examples.{a, b, c, d, e, z, above, aa, bb, cc, dz, whole, part, backing, store, flushed};
 
 /// The map of what is left is the map without the span, whatever the backings stand for.

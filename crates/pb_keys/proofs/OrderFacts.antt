@@ -95,7 +95,7 @@ none_below_zero : (y : ℕ) (o : Ordering) → is_lt o ≡ false → is_lt (orde
 none_below_zero zero o h = h
 none_below_zero (suc y) o h = ap (λ r. is_lt (ordering_then r o)) (above_zero y)
 
-none_below_none : (ys : List ℕ) → is_below ys [] ≡ false
+pub none_below_none : (ys : List ℕ) → is_below ys [] ≡ false
 none_below_none [] = refl
 none_below_none (y ∷ ys) = refl
 

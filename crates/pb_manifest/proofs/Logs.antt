@@ -1,19 +1,14 @@
 -- The payloads of a log's file, and what an opening leaves of them.
-use Rattle.std.proofs.Common.{ℕ, List, Option, Some, None, IsSome, refl, sym, subst, inl, inr}
-use Rattle.std.proofs.lemmas.Bool.{false≢true}
+use Rattle.std.proofs.Common.{ℕ, List, Option, IsSome, sym, subst, inl, inr}
 use Rattle.pb_devices.specs.Contents.{Contents, IsSettled}
 use Rattle.pb_devices.specs.DiskCalls.{Stays}
 use Rattle.pb_devices.proofs.Images.{settled_image, stays_image}
 use Rattle.pb_devices.proofs.Kept.{kept_then, stays_kept}
 use Rattle.pb_gate_log.specs.Calls.{Opens}
 use Rattle.pb_gate_log.specs.Payloads.{HasList, payloads_in}
+use Rattle.pb_gate_log.proofs.FilePayloads.{has_own}
 use Rattle.pb_manifest.specs.Found.{KeepsPayloadsOf}
 use Rattle.pb_manifest.specs.Steps.{OpensIfThere}
-
--- a file that is there has its own payloads
-pub has_own : (file : Option (List ℕ)) → IsSome file → HasList (payloads_in file) file
-has_own None there = absurd (false≢true there)
-has_own (Some bytes) there = refl
 
 pub said_still : (file image : Option (List ℕ)) → IsSome file → HasList (payloads_in file) image → KeepsPayloadsOf file image
 said_still file image there has = inr (payloads_in file, has_own file there, has)

@@ -18,7 +18,7 @@ use Rattle.pb_keys.specs.Order.{bytes_cmp, is_below}
 use Rattle.pb_keys.specs.Span.{KeySpan, IsSpan, IsEnd, holds_key}
 use Rattle.pb_keys.proofs.KeyFacts.{suffix_start_is}
 use Rattle.pb_keys.proofs.Lists.{filter_all, filter_none}
-use Rattle.pb_keys.proofs.OrderFacts.{below_chain, less}
+use Rattle.pb_keys.proofs.OrderFacts.{below_chain, less, none_below_none}
 use Rattle.pb_keys.proofs.SpanFacts.{holds_key-ends}
 use Rattle.pb_memtable.specs.Search.{IsPlaceOf, IsRowPlace, IsRow, change_at, row_of_change, rows_at}
 use Rattle.pb_memtable.proofs.IndexLaws.{change_new, place_more, place_new, rows_more}
@@ -108,10 +108,6 @@ pub end_without_suffix : (bytes : List ℕ) → IsEnd bytes → suffix_of bytes 
 end_without_suffix bytes is =
     let at : length bytes ≡ suffix_start bytes = suffix_start_is bytes (length bytes) (omega arith) (λ k h. is.plain k 0 h) (λ h. absurd (omega arith)) in
     drop_all (suffix_start bytes) bytes (omega arith)
-
-none_below_none : (ys : List ℕ) → is_below ys [] ≡ false
-none_below_none [] = refl
-none_below_none (y ∷ ys) = refl
 
 first_decides : (o p : Ordering) → is_lt p ≡ false → is_lt (ordering_then o p) ≡ is_lt o
 first_decides Less p h = refl

@@ -1,4 +1,5 @@
 -- The files of an open store: what its images say, and what a call on one file leaves of them.
+use Rattle.std.proofs.lemmas.Bool.{eqb-true}
 use Rattle.std.proofs.Common.{◌≡◌, ◌<◌, ◌≤◌, ◌^◌, ℕ, Bool, true, false, List, [], ◌∷◌, ◌++◌, length, Option, Some, None, inl, inr, refl, sym, ap, ◌∙◌, subst, arith}
 use Rattle.std.specs.Prelude.{◌⊎◌, ◌↔◌, ◌==◌, ◌||◌, IfSome, IsSomeAnd, slice_index}
 use Rattle.std.specs.List.{All, Contains}
@@ -16,7 +17,6 @@ use Rattle.pb_payloads.specs.Logged.Logged.{Set, Del, DelRange, Ingest}
 use Rattle.pb_gate_log.specs.EachLog.{EachLog, LogPlace}
 use Rattle.pb_gate_log.specs.LogFile.{IsLogFile}
 use Rattle.pb_gate_log.proofs.LogStates.{each_kept_at}
-use Rattle.pb_version.proofs.Lists.{same_number}
 use Rattle.pb_version.proofs.SaysVersion.{says_a_version}
 use Rattle.pb_folder.specs.Said.{Says}
 use Rattle.pb_folder.specs.Shown.{Words, Shows}
@@ -205,7 +205,7 @@ fewer_unmade files unmade disk among kept =
 
 first_or_more : (first m next : ℕ) (same more : Bool) → (first == m) ≡ same → first < next → (same || more) ≡ true
     → (more ≡ true → m < next) → m < next
-first_or_more first m next true more same low is rest = subst (λ k. k < next) (same_number first m same) low
+first_or_more first m next true more same low is rest = subst (λ k. k < next) (eqb-true first m same) low
 first_or_more first m next false more same low is rest = rest is
 
 -- a number that stands is below what all are below

@@ -15,9 +15,9 @@ use Rattle.pb_names.specs.declared.file_kind.FileKind.TheVariants.{Table}
 use Rattle.pb_names.proofs.NumberedFileLemmas.{files_are_numbered}
 use Rattle.pb_gate_log.specs.Calls.{Opens}
 use Rattle.pb_gate_log.specs.Payloads.{HasList, payloads_in}
+use Rattle.pb_gate_log.proofs.FilePayloads.{has_own}
 use Rattle.pb_folder.specs.Said.{Said, Says}
 use Rattle.pb_folder.proofs.OneMeaning.{new_says_nothing}
-use Rattle.pb_manifest.proofs.Logs.{has_own}
 use Rattle.pb_manifest.proofs.Opening.{same_or}
 use Rattle.pb_recover.specs.Reopened.{IsBegun, IsGateLog, IsNamedBy, IsReopened, IsSwept, IsSweptAt, Reopens}
 use Rattle.pb_recover.specs.Reopened.IsSweptAt.{Same, Relisted, Gone}

@@ -4,7 +4,7 @@ use Rattle.std.specs.Fmt.{digits}
 use Rattle.std.specs.FinMap.{empty, insert}
 use Rattle.std.specs.Prelude.{◌⊎◌, ◌||◌, ◌==◌, codes, nat_eq}
 use Rattle.std.specs.Cmp.Lexicographic.{pointwise, same_text}
-use Rattle.std.proofs.lemmas.Bool.{cases_Bool, cond-false}
+use Rattle.std.proofs.lemmas.Bool.{cases_Bool, cond-false, eqb-true}
 use Rattle.pb_bytes.specs.BigEndian.{number_of}
 use Rattle.pb_devices.specs.Contents.{Folder}
 use Rattle.pb_gate_log.specs.NewFolder.{IsNew}
@@ -13,7 +13,6 @@ use Rattle.pb_keys.specs.Map.{Map}
 use Rattle.pb_names.specs.Spelling.{current_name, file_name}
 use Rattle.pb_names.specs.declared.file_kind.FileKind.TheVariants.{Log, Table}
 use Rattle.pb_names.proofs.NumberedFileLemmas.{files_are_numbered}
-use Rattle.pb_version.proofs.Lists.{same_number}
 use Rattle.pb_folder.specs.Examples.{table_of_a, flushed_files, flushed_manifest, first_current, first_catalogue}
 use Rattle.pb_folder.specs.Listed.{Files, folder_of}
 use Rattle.pb_folder.specs.Said.{Said, Says}
@@ -77,7 +76,7 @@ or_none false is = is
 -- the one number that the version stores
 the_table : (number : ℕ) → is_named flushed_said number ≡ true → 4 ≡ number
 unfolding flushed_said
-the_table number is = same_number 4 number (or_none (4 == number) is)
+the_table number is = eqb-true 4 number (or_none (4 == number) is)
 
 first_byte : (name other : List ℕ) → name ≡ other → get_or name 0 0 ≡ get_or other 0 0
 first_byte name other e = ap (λ text. get_or text 0 0) e

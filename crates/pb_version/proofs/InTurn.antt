@@ -1,17 +1,16 @@
 -- What tables say of a key: level by level, and alone where their bounds don't overlap.
-use Rattle.std.proofs.Common.{◌≡◌, ℕ, ◌<◌, ◌≤◌, zero, length, get_or, List, [], ◌∷◌, ◌++◌, Bool, true, false, cond, suc, refl, ap, sym, ◌∙◌, subst, arith, inl, inr}
+use Rattle.std.proofs.Common.{◌≡◌, ℕ, ◌<◌, ◌≤◌, zero, length, get_or, List, [], ◌∷◌, true, false, cond, suc, refl, ap, sym, ◌∙◌, arith, inl, inr}
 use Rattle.std.proofs.lemmas.Bool.{not-true, and_parts}
 use Rattle.std.proofs.lemmas.Bool.Decides.{nat_tests}
-use Rattle.std.proofs.lemmas.List.{map-append}
 use Rattle.std.proofs.lemmas.List.Elements.{All-nil, All-cons, All-head, All-tail, All-contains, All-contains_itself}
-use Rattle.std.specs.Prelude.{◌⊎◌, ◌↔◌, not, ◌&&◌, ◌||◌, ◌==◌, map, Option, Some, None, All, Contains}
+use Rattle.std.specs.Prelude.{◌⊎◌, ◌↔◌, not, ◌&&◌, ◌||◌, ◌==◌, None, All, Contains}
 use Rattle.std.specs.List.{list_all}
 use Rattle.std.specs.Option.{option_or}
 use Rattle.pb_keys.specs.Span.{holds_key, overlap}
 use Rattle.pb_keys.proofs.Tests.{second_is_false}
 use Rattle.pb_rows.specs.Layer.{KeyLayer}
-use Rattle.pb_rows.specs.Verdict.{Verdict, verdict, verdicts}
-use Rattle.pb_rows.proofs.VerdictLaws.{verdicts-append, option_or_none}
+use Rattle.pb_rows.specs.Verdict.{verdict}
+use Rattle.pb_rows.proofs.VerdictLaws.{option_or_none}
 use Rattle.pb_rows.proofs.ViewLaws.{holds-apart}
 use Rattle.pb_version.specs.Version.{TableView, VersionView, all_tables, flattened}
 use Rattle.pb_version.specs.Edited.{comes_before, placed}

@@ -5,7 +5,7 @@ use Rattle.std.proofs.lemmas.Bool.{cases_lt, not-true}
 use Rattle.std.proofs.lemmas.List.{map-append, reverse-reverse}
 use Rattle.std.proofs.lemmas.List.Elements.{All-cons, All-nil, All-head, All-tail}
 use Rattle.std.proofs.lemmas.List.Kept.{AllPairs-cons}
-use Rattle.std.specs.Prelude.{not, ◌==◌, ◌&&◌, ◌||◌, nat_lt, map, Option, Some, None, All, Contains, unwrap_or}
+use Rattle.std.specs.Prelude.{not, ◌==◌, ◌&&◌, ◌||◌, nat_lt, map, Some, None, All, Contains, unwrap_or}
 use Rattle.std.specs.List.{filter, list_all, AllPairs}
 use Rattle.std.specs.Option.{option_or}
 use Rattle.std.specs.FinMap.{empty, get}
@@ -15,7 +15,7 @@ use Rattle.pb_keys.specs.Span.{KeySpan, span_of, holds_key, overlap}
 use Rattle.pb_keys.proofs.MapFacts.{same_pairs}
 use Rattle.pb_keys.proofs.Tests.{second_is_false}
 use Rattle.pb_keys.proofs.Lists.{in_reverse}
-use Rattle.pb_rows.specs.Applied.{applied_in_turn, applied_newest_first}
+use Rattle.pb_rows.specs.Applied.{applied_in_turn}
 use Rattle.pb_rows.specs.Hull.{hull_of, HullsApart, HaveSameLayers}
 use Rattle.pb_rows.specs.Layer.{KeyLayer}
 use Rattle.pb_rows.specs.Verdict.{Verdict, verdict, verdicts}
@@ -24,13 +24,13 @@ use Rattle.pb_rows.proofs.ApartLayers.{same_members_say}
 use Rattle.pb_rows.proofs.ChangingLaws.{get-applied_in_turn}
 use Rattle.pb_rows.proofs.HullHolds.{shown_within}
 use Rattle.pb_rows.proofs.VerdictLaws.{get-applied_newest_first, verdicts-append, option_or_groups, one_after_other}
-use Rattle.pb_rows.proofs.ViewLaws.{holds-apart, verdict-bounded, verdict-plain_view}
+use Rattle.pb_rows.proofs.ViewLaws.{holds-apart, verdict-bounded}
 use Rattle.pb_version.specs.Version.{TableView, VersionView, version_of, all_tables, flattened}
 use Rattle.pb_version.specs.Edited.{comes_before, starts_below, physical_table, placed, all_placed, each_level}
 use Rattle.pb_version.specs.Rules.{each_pair}
 use Rattle.pb_version.specs.Meaning.{layer_of_table, map_of}
 use Rattle.pb_version.specs.Judged.{all_levels}
-use Rattle.pb_version.specs.Adding.{tables_for, level_with, with_tables, is_under, level_is_under, is_on_top, IsOnTop, StandsOnTop, bounds_apart, AllStandOnTop, layers_of}
+use Rattle.pb_version.specs.Adding.{tables_for, level_with, with_tables, is_under, level_is_under, IsOnTop, StandsOnTop, bounds_apart, AllStandOnTop, layers_of}
 use Rattle.pb_version.proofs.Lists.{left, right, list_all_all_placed}
 use Rattle.pb_version.proofs.Levels.{flattened_cons, each_of_each, levels_gives}
 use Rattle.pb_version.proofs.MeaningLaws.{map_of-newest_first}

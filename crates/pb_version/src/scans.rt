@@ -60,7 +60,7 @@ pub(crate) fn size_of(backings: &[Created], number: u64) -> Option<u64>
 pub(crate) fn is_listed(numbers: &[u64], number: u64) -> bool
     ensures { result ≡ is_listed numbers.now number }
 {
-    numbers.iter().any(|n| *n == number)
+    numbers.contains(&number)
 }
 
 /// Whether the table of the level is among those that are deleted.

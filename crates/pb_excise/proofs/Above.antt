@@ -1,18 +1,18 @@
 -- An excise adds nothing above what stays: each table that it leaves stood there, or is a part of one that went.
-use Rattle.std.proofs.Common.{◌≡◌, ℕ, ◌+◌, ◌<◌, ◌≤◌, List, [], ◌∷◌, ◌++◌, Bool, true, false, cond, length, zero, suc, refl, ap, sym, ◌∙◌, subst, arith, inl, inr}
-use Rattle.std.proofs.lemmas.List.Elements.{All-nil, All-cons, All-head, All-tail, All-append, All-contains, All-contains_itself, All-weaker}
-use Rattle.std.specs.Prelude.{◌⊎◌, not, ◌&&◌, nat_lt, slice_index_or, All, Contains}
+use Rattle.std.proofs.Common.{◌≡◌, ℕ, ◌+◌, ◌<◌, ◌≤◌, List, [], ◌∷◌, Bool, true, false, cond, length, zero, suc, refl, ap, sym, ◌∙◌, subst, arith, inl, inr}
+use Rattle.std.proofs.lemmas.List.Elements.{All-nil, All-cons, All-head, All-tail, All-append, All-contains, All-contains_itself}
+use Rattle.std.specs.Prelude.{not, ◌&&◌, nat_lt, slice_index_or, All, Contains}
 use Rattle.std.specs.List.{list_all}
 use Rattle.std.proofs.lemmas.Bool.{ltb-true}
 use Rattle.pb_keys.specs.Order.{is_below, is_upto, lesser, greater}
 use Rattle.pb_keys.specs.Span.{KeySpan, span_of, overlap}
 use Rattle.pb_keys.proofs.OrderFacts.{below_itself, below_one_way}
 use Rattle.pb_span_cases.specs.Remainder.{remains}
-use Rattle.pb_version.specs.Version.{TableView, VersionView, tables_of_level, all_tables, flattened}
+use Rattle.pb_version.specs.Version.{TableView, VersionView, tables_of_level}
 use Rattle.pb_version.proofs.Lists.{left, right}
 use Rattle.pb_version.proofs.Levels.{list_all_flattened}
 use Rattle.pb_excise.specs.Excised.{parts_of, part_table, numbered_parts, left_of, parts_count, excised_tables, excised_levels, excised}
-use Rattle.pb_version.specs.Above.{lies_within, IsPartOf, ReplacesOne, MayStand, AddsAbove}
+use Rattle.pb_version.specs.Above.{lies_within, MayStand, AddsAbove}
 use Rattle.pb_excise.specs.Unused.{AreUnusedFrom}
 
 -- ---- parts lie within their table

@@ -1,3 +1,15 @@
-pub mod Maps
-pub mod Stored
 pub mod Above
+pub mod Backings
+pub mod Before
+pub mod Drafts
+pub mod Gone
+pub mod InForm
+pub mod Made
+pub mod Maps
+pub mod Placed
+pub mod Planning
+pub mod SameLists
+pub mod Sets
+pub mod Sorting
+pub mod Stored
+pub mod Walk

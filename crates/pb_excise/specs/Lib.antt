@@ -1,3 +1,5 @@
 pub mod Excised
 pub mod Unused
+pub mod Planned
+pub mod Drafted
 pub mod Examples

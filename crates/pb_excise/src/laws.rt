@@ -1,10 +1,11 @@
 //! What holds of every excise. Each function does nothing: its contract is a law of the definitions.
-ghost use Rattle.std.specs.Prelude.{◌≡◌, ℕ, [], ◌∷◌, All, Contains};
+ghost use Rattle.std.specs.Prelude.{◌≡◌, ◌≤◌, ℕ, [], ◌∷◌, All, Contains};
 ghost use Rattle.pb_keys.specs.Map.{without};
 ghost use Rattle.pb_keys.specs.Span.{KeySpan, span_of};
 ghost use Rattle.pb_rows.specs.Layer.{KeyLayer};
 ghost use Rattle.pb_version.specs.Version.{VersionView, all_tables};
 ghost use Rattle.pb_version.specs.Meaning.{map_of};
+ghost use Rattle.pb_version.specs.State.{IsVersion};
 ghost use Rattle.pb_version.specs.Stored.{stored_in};
 ghost use Rattle.pb_version.specs.Above.{AddsAbove};
 ghost use Rattle.pb_excise.specs.Excised.{excised, ShowsWhatStood};
@@ -27,6 +28,11 @@ pub fn nothing_new_is_stored()
 /// from there, with its rank and within its bounds.
 pub fn an_excise_adds_above()
     ensures { (v : VersionView) (cut : KeySpan) (first : ℕ) → AreUnusedFrom v first → AddsAbove v (excised v cut first) }
+{}
+
+/// Numbers that a version hasn't reserved yet are in no use.
+pub fn unreserved_numbers_are_unused()
+    ensures { (v : VersionView) (first : ℕ) → IsVersion v → v.five.next ≤ first → AreUnusedFrom v first }
 {}
 
 /// Excises computed: of a span inside a table, of all of it, beside it, and of its front; one after another; and of several

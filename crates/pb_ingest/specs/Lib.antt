@@ -1,0 +1,4 @@
+pub mod Levels
+pub mod Planned
+pub mod Pairs
+pub mod Examples

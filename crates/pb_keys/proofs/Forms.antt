@@ -10,7 +10,7 @@ use Rattle.pb_keys.specs.Span.{KeySpan, IsEnd, IsSpan, has_no_at, is_end, is_spa
 use Rattle.pb_keys.specs.Value.{IsValue, is_value}
 use Rattle.pb_keys.specs.View.{KeyView, IsPrefix, IsSuffix, IsMapping, IsView, is_prefix, is_suffix, is_mapping, is_view}
 use Rattle.pb_keys.proofs.KeyFacts.{other_byte}
-use Rattle.std.proofs.lemmas.Bool.{and_from, and_parts}
+use Rattle.std.proofs.lemmas.Bool.{and_from, and_parts, le-leb}
 
 -- ---- tests of two and three parts
 
@@ -19,9 +19,6 @@ three a b c p q r = grind (arith, nat_tests)
 
 pub of_three : (a b c : Bool) → (a && b && c) ≡ true → (a ≡ true) × (b ≡ true) × (c ≡ true)
 of_three a b c e = grind (arith, nat_tests)
-
-at_most : (n limit : ℕ) → n ≤ limit → nat_le n limit ≡ true
-at_most n limit h = grind (arith, nat_tests)
 
 of_at_most : (n limit : ℕ) → nat_le n limit ≡ true → n ≤ limit
 of_at_most n limit e = grind (arith, nat_tests)
@@ -45,7 +42,7 @@ other_than_at b h = grind (arith, nat_tests)
 pub key_tests : (bytes : List ℕ) → IsKey bytes → is_key bytes ≡ true
 key_tests bytes is =
     three (nat_le 1 (length bytes)) (nat_le (length bytes) 1024) (not (get_or bytes 0 0 == at_sign))
-    (at_most 1 (length bytes) is.some) (at_most (length bytes) 1024 is.within) (ap not (other_byte (get_or bytes 0 0) is.begins))
+    (le-leb 1 (length bytes) is.some) (le-leb (length bytes) 1024 is.within) (ap not (other_byte (get_or bytes 0 0) is.begins))
 
 pub key_says : (bytes : List ℕ) → is_key bytes ≡ true → IsKey bytes
 key_says bytes e =
@@ -53,14 +50,14 @@ key_says bytes e =
     record { some = of_at_most 1 (length bytes) parts.0; within = of_at_most (length bytes) 1024 parts.1; begins = other_than_at (get_or bytes 0 0) parts.2 }
 
 pub value_is : (bytes : List ℕ) → (is_value bytes ≡ true) ↔ IsValue bytes
-value_is bytes = (of_at_most (length bytes) 65536, at_most (length bytes) 65536)
+value_is bytes = (of_at_most (length bytes) 65536, le-leb (length bytes) 65536)
 
 -- ---- ends and spans
 
 pub end_tests : (bytes : List ℕ) → IsEnd bytes → is_end bytes ≡ true
 end_tests bytes is =
     three (nat_le 1 (length bytes)) (nat_le (length bytes) 1025) (has_no_at bytes)
-    (at_most 1 (length bytes) is.some) (at_most (length bytes) 1025 is.within) (plain_tests bytes is.plain)
+    (le-leb 1 (length bytes) is.some) (le-leb (length bytes) 1025 is.within) (plain_tests bytes is.plain)
 
 pub end_says : (bytes : List ℕ) → is_end bytes ≡ true → IsEnd bytes
 end_says bytes e =
@@ -85,7 +82,7 @@ span_fails span fails =
 -- ---- what a view puts before keys and in the place of their suffixes
 
 pub prefix_tests : (bytes : List ℕ) → IsPrefix bytes → is_prefix bytes ≡ true
-prefix_tests bytes is = and_from (nat_le (length bytes) 1024) (has_no_at bytes) (at_most (length bytes) 1024 is.within) (plain_tests bytes is.plain)
+prefix_tests bytes is = and_from (nat_le (length bytes) 1024) (has_no_at bytes) (le-leb (length bytes) 1024 is.within) (plain_tests bytes is.plain)
 
 pub prefix_says : (bytes : List ℕ) → is_prefix bytes ≡ true → IsPrefix bytes
 prefix_says bytes e =

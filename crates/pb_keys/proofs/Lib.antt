@@ -7,3 +7,4 @@ pub mod SpanFacts
 pub mod Tests
 pub mod Lists
 pub mod Options
+pub mod Results

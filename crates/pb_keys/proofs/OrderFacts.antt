@@ -1,5 +1,5 @@
 -- The order of bytes: what `<` and `<=` answer, and how it chains.
-use Rattle.std.proofs.Common.{◌≡◌, ℕ, List, [], ◌∷◌, zero, suc, true, false, sym, ap, ◌∙◌, refl, arith}
+use Rattle.std.proofs.Common.{◌≡◌, ℕ, List, [], ◌∷◌, ◌++◌, zero, suc, true, false, sym, ap, ◌∙◌, refl, arith}
 use Rattle.std.proofs.lemmas.Bool.Decides.{nat_tests}
 use Rattle.std.specs.Prelude.{not, Some}
 use Rattle.std.specs.declared.cmp.Ordering.{Ordering}
@@ -110,3 +110,9 @@ below-end_above (y ∷ ys) (x ∷ xs) =
 
 pub least_end_above : (p : List ℕ) → LeastAbove p (end_above p)
 least_end_above p = record { above = below-end_above p p ∙ ap not (below_itself p); least = λ q h. sym (below-end_above q p) ∙ h }
+
+-- ---- behind the same bytes
+
+pub bytes_cmp-behind : (front a b : List ℕ) → bytes_cmp (front ++ a) (front ++ b) ≡ bytes_cmp a b
+bytes_cmp-behind [] a b = refl
+bytes_cmp-behind (x ∷ xs) a b = ap (λ o. ordering_then o (bytes_cmp (xs ++ a) (xs ++ b))) (tied_itself nat_cmp_total x) ∙ bytes_cmp-behind xs a b

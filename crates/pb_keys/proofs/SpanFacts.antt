@@ -2,6 +2,7 @@
 use Rattle.std.proofs.Common.{◌≡◌, ℕ, List, Bool, true, false, cond, ap, sym, refl, ◌∙◌}
 use Rattle.std.specs.Prelude.{not, ◌&&◌}
 use Rattle.std.specs.declared.cmp.Ordering.TheVariants.{Equal}
+use Rattle.std.proofs.Math.Bool.{and_comm}
 use Rattle.pb_keys.specs.Order.{is_below, is_upto, lesser, greater}
 use Rattle.pb_keys.specs.Key.{prefix_of, key_cmp}
 use Rattle.pb_keys.specs.KeyLaws.{key_cmp_exact}
@@ -16,6 +17,9 @@ holds_key-ends span key = refl
 pub overlap-ends : (a b : KeySpan) → overlap a b ≡ (is_below a.lo b.hi && is_below b.lo a.hi)
 unfolding overlap
 overlap-ends a b = refl
+
+pub overlap_turns : (s t : KeySpan) → overlap s t ≡ overlap t s
+overlap_turns s t = overlap-ends s t ∙ and_comm (is_below s.lo t.hi) (is_below t.lo s.hi) ∙ sym (overlap-ends t s)
 
 -- keys that tie are alike to every test
 pub alike_keys : (test : List ℕ → Bool) (a b : List ℕ) → key_cmp a b ≡ Equal → test b ≡ test a

@@ -20,7 +20,7 @@ tests_tell_stores store = (store_is store, is_store_of store)
 pub tests_tell_marker_numbers : TestsTellMarkerNumbers
 tests_tell_marker_numbers number = (ltb-true number _, lt-ltb number _)
 
-object_is : (object : Identity) → is_object object ≡ true → IsObject object
+pub object_is : (object : Identity) → is_object object ≡ true → IsObject object
 object_is object is =
     let parts = and_parts (is_store object.creator) (nat_lt object.number (2 ^ 62)) is in
     record { creator = store_is object.creator parts.0; number = ltb-true object.number (2 ^ 62) parts.1 }

@@ -4,7 +4,7 @@ use Rattle.std.specs.Prelude.{All, not, ◌&&◌, ◌==◌}
 use Rattle.std.specs.declared.cmp.Ordering.{Ordering}
 use Rattle.std.specs.declared.cmp.Ordering.TheVariants.{Less, Equal, Greater}
 use Rattle.std.specs.Ordering.{ordering_then, nat_cmp, is_lt}
-use Rattle.std.specs.Cmp.{tied_itself, nat_cmp_total}
+use Rattle.std.specs.Cmp.{tied_itself}
 use Rattle.std.specs.Cmp.Lexicographic.{nat_list_cmp_total}
 use Rattle.std.specs.FinMap.{nat_cmp-IsAntisymmetric}
 use Rattle.std.proofs.lemmas.List.Elements.{All-head, All-tail}
@@ -16,6 +16,7 @@ use Rattle.pb_keys.specs.View.{KeyView, IsSuffix, IsMapping}
 use Rattle.pb_keys.proofs.KeyFacts.{prefix_is_plain}
 use Rattle.pb_rows.specs.Viewed.{with_suffix, mapped_key, mapped_span}
 use Rattle.pb_keys.proofs.KeyFacts.{other_byte}
+use Rattle.pb_keys.proofs.OrderFacts.{bytes_cmp-behind}
 
 -- ---- behind bytes without '@'
 
@@ -80,10 +81,6 @@ pub given_suffix : (view : KeyView) (key : List ℕ) → IsMapping view → (vie
 given_suffix view key is some = suffix_of-behind view.prefix (with_suffix view.suffix key) is.prefix.plain ∙ given view.suffix key is.suffix some
 
 -- ---- order
-
-pub bytes_cmp-behind : (p a b : List ℕ) → bytes_cmp (p ++ a) (p ++ b) ≡ bytes_cmp a b
-bytes_cmp-behind [] a b = refl
-bytes_cmp-behind (x ∷ xs) a b = ap (λ o. ordering_then o (bytes_cmp (xs ++ a) (xs ++ b))) (tied_itself nat_cmp_total x) ∙ bytes_cmp-behind xs a b
 
 pub below-behind : (p a b : List ℕ) → is_below (p ++ a) (p ++ b) ≡ is_below a b
 below-behind p a b = ap is_lt (bytes_cmp-behind p a b)

@@ -12,7 +12,8 @@ use Rattle.pb_rows.specs.Layer.{KeyRow, KeyLayer}
 use Rattle.pb_rows.specs.Verdict.{Verdict, row_verdict, prefix_verdict, is_covered, verdict}
 use Rattle.pb_rows.specs.Viewed.{with_suffix, mapped_key, mapped_row, mapped_span, with_bounds, mapped, viewed}
 use Rattle.pb_keys.proofs.SpanFacts.{held_from, held_to}
-use Rattle.pb_rows.proofs.MappedLaws.{prefix_of-behind, suffix_of-behind, key_cmp-behind, key_cmp-one_suffix, bytes_cmp-behind, prefix_of-mapped_key, given_suffix, plain_prefix, BeginsSuffix, begins_suffix, prefix_before, suffix_behind, holds-mapped, begins_between}
+use Rattle.pb_keys.proofs.OrderFacts.{bytes_cmp-behind}
+use Rattle.pb_rows.proofs.MappedLaws.{prefix_of-behind, suffix_of-behind, key_cmp-behind, key_cmp-one_suffix, prefix_of-mapped_key, given_suffix, plain_prefix, BeginsSuffix, begins_suffix, prefix_before, suffix_behind, holds-mapped, begins_between}
 use Rattle.pb_rows.proofs.RowLaws.{same_key}
 use Rattle.pb_rows.proofs.ViewLaws.{verdict-bounded}
 

@@ -16,12 +16,13 @@ use Rattle.pb_keys.specs.Order.{bytes_cmp, is_below}
 use Rattle.pb_keys.specs.Span.{KeySpan, IsSpan, holds_key}
 use Rattle.pb_keys.specs.View.{KeyView, IsView, IsMapping}
 use Rattle.pb_keys.proofs.KeyFacts.{prefixes_ascend}
+use Rattle.pb_keys.proofs.OrderFacts.{bytes_cmp-behind}
 use Rattle.pb_rows.specs.Hull.{hull_of, span_at}
 use Rattle.pb_rows.specs.Layer.{KeyRow, KeyLayer, IsLayer, IsBelow, Rise, AreApart, IsShortRow, layer_of}
 use Rattle.pb_rows.specs.Viewed.{with_suffix, mapped_key, mapped_row, mapped_span, bounded, viewed, plain_view, part_within, MapsWithin}
 use Rattle.pb_rows.proofs.HullHolds.{LiesWithin, hull_holds, within_holds, holds_at}
 use Rattle.pb_rows.proofs.LookLaws.{rows_rise}
-use Rattle.pb_rows.proofs.MappedLaws.{prefix_of-mapped_key, given_suffix, bytes_cmp-behind, below-behind, key_cmp-behind, key_cmp-one_suffix}
+use Rattle.pb_rows.proofs.MappedLaws.{prefix_of-mapped_key, given_suffix, below-behind, key_cmp-behind, key_cmp-one_suffix}
 use Rattle.pb_rows.proofs.Parts.{whole_part, parts_in_form, apart_within}
 use Rattle.pb_rows.proofs.ViewLaws.{mapped-plain_view}
 

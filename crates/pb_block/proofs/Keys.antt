@@ -6,7 +6,7 @@ use borrow.Rule.Slice.PartMut.{put_mid}
 use Rattle.std.proofs.lemmas.Slice.{take-put_mid}
 use Rattle.std.specs.List.{common_prefix_len}
 use Rattle.std.specs.Ordering.{ordering_then, is_lt}
-use Rattle.std.specs.Cmp.{nat_cmp_total, tied_itself}
+use Rattle.std.specs.Cmp.{tied_itself}
 use Rattle.std.proofs.lemmas.Bool.{cases_Bool, cases_lt, eq-eqb, le-leb, lt-leb}
 use Rattle.std.proofs.lemmas.Bool.Decides.{nat_tests}
 use Rattle.std.proofs.lemmas.List.{take-append-drop, length-drop, length-take, length-take-le, take-take, take-append-le, drop-append-le}
@@ -14,12 +14,9 @@ use Rattle.std.specs.Cmp.Lexicographic.{nat_list_cmp_total}
 use Rattle.std.proofs.Math.Seq.{take-append-add, drop-append-add}
 use Rattle.pb_keys.specs.Order.{bytes_cmp, is_below}
 use Rattle.pb_keys.specs.Key.{suffix_start, prefix_of, suffix_of, key_cmp, at_sign}
+use Rattle.pb_keys.proofs.OrderFacts.{bytes_cmp-behind}
 
 -- ---- the same beginning
-
-pub cmp_behind : (front a b : List ℕ) → bytes_cmp (front ++ a) (front ++ b) ≡ bytes_cmp a b
-cmp_behind [] a b = refl
-cmp_behind (x ∷ xs) a b = ap (λ o. ordering_then o (bytes_cmp (xs ++ a) (xs ++ b))) (tied_itself nat_cmp_total x) ∙ cmp_behind xs a b
 
 pub shared-behind : (front a b : List ℕ) → common_prefix_len nat_eq (front ++ a) (front ++ b) ≡ length front + common_prefix_len nat_eq a b
 shared-behind [] a b = omega arith
@@ -127,7 +124,7 @@ cmp_within front a b here =
     let suffix = λ (x : List ℕ). ap (λ (n : ℕ). drop n (front ++ x)) (start_within front x here) ∙ drop-append-le at front x within in
     (λ i. ordering_then (bytes_cmp (prefix a i) (prefix b i)) (bytes_cmp (suffix a i) (suffix b i)))
     ∙ ap (λ o. ordering_then o (bytes_cmp (drop at front ++ a) (drop at front ++ b))) (tied_itself nat_list_cmp_total (take at front))
-    ∙ cmp_behind (drop at front) a b
+    ∙ bytes_cmp-behind (drop at front) a b
 
 cmp_past : (front a b : List ℕ) → length front ≤ suffix_start front → key_cmp (front ++ a) (front ++ b) ≡ key_cmp a b
 unfolding key_cmp
@@ -135,7 +132,7 @@ cmp_past front a b past =
     let prefix = λ (x : List ℕ). ap (λ (n : ℕ). take n (front ++ x)) (start_behind front x past) ∙ take-append-add front x (suffix_start x) in
     let suffix = λ (x : List ℕ). ap (λ (n : ℕ). drop n (front ++ x)) (start_behind front x past) ∙ drop-append-add front x (suffix_start x) in
     (λ i. ordering_then (bytes_cmp (prefix a i) (prefix b i)) (bytes_cmp (suffix a i) (suffix b i)))
-    ∙ ap (λ o. ordering_then o (bytes_cmp (suffix_of a) (suffix_of b))) (cmp_behind front (prefix_of a) (prefix_of b))
+    ∙ ap (λ o. ordering_then o (bytes_cmp (suffix_of a) (suffix_of b))) (bytes_cmp-behind front (prefix_of a) (prefix_of b))
 
 parted : (bytes unshared : List ℕ) (at : ℕ)
     → key_cmp bytes (take at bytes ++ unshared) ≡ key_cmp (take at bytes ++ drop at bytes) (take at bytes ++ unshared)

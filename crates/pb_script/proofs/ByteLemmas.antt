@@ -2,7 +2,7 @@
 use Rattle.std.proofs.Common.{◌≡◌, ℕ, ◌==◌, Bool, true, false, ◌&&◌, ◌||◌, List, [], ◌∷◌, ◌++◌, Option, Some, None, refl, sym, ap, ◌∙◌, subst, arith, inl, inr}
 use Rattle.std.specs.Prelude.{IfSome, codes}
 use Rattle.std.specs.List.{filter, list_all, slice_split, onto_first}
-use Rattle.std.proofs.lemmas.Bool.{cases_Bool, cond-true, cond-false, and_parts}
+use Rattle.std.proofs.lemmas.Bool.{cases_Bool, cond-true, cond-false, and_parts, or_right}
 use Rattle.std.proofs.lemmas.Bool.Decides.{nat_tests}
 use Rattle.pb_script.specs.Answers.{◌>>=◌}
 use Rattle.pb_script.specs.Words.{is_graphic, is_of_lines, has_bytes, words_of, begins_with_hash, has_no_word, is_skipped}
@@ -30,12 +30,8 @@ each_part ((byte ∷ part) ∷ parts) are = let all = subst AreGraphic (cond-tru
 space_is : (byte : ℕ) (more : Bool) → (byte == 32) ≡ true → more ≡ true → (is_of_lines byte && more) ≡ true
 space_is byte more is also = two_true (is_of_lines byte) more (ap (λ (b : Bool). b || is_graphic byte) is) also
 
-either_way : (one two : Bool) → two ≡ true → (one || two) ≡ true
-either_way true two is = refl
-either_way false two is = is
-
 graphic_is : (byte : ℕ) → is_graphic byte ≡ true → is_of_lines byte ≡ true
-graphic_is byte is = either_way (byte == 32) (is_graphic byte) is
+graphic_is byte is = or_right (byte == 32) (is_graphic byte) is
 
 first_part : (byte : ℕ) (parts : List (List ℕ)) → AreGraphic (onto_first byte parts) → (is_graphic byte ≡ true) × AreGraphic parts
 first_part byte [] are = ((and_parts (is_graphic byte) true are.0).0, tt)

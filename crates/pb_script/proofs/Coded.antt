@@ -70,18 +70,19 @@ pub coded_whole : (word front : List ℕ) → bytes_of word ≡ with_bytes front
 unfolding bytes_of
 coded_whole word front is = is ∙ ap (λ (x : List ℕ). Some x) (append-nil front)
 
--- what stands behind the first n bytes
-rest_is : (n : ℕ) (text : List ℕ) → take (length text - n) (drop n text) ≡ drop n text
-rest_is n text = ap (λ (k : ℕ). take k (drop n text)) (sym (length-drop n text)) ∙ take-length (drop n text)
-
 pub coded_ok : (text : List ℕ) (byte : ℕ) → 3 ≤ length text → get_or text 0 0 ≡ 37 → hex_pair (get_or text 1 0) (get_or text 2 0) ≡ Some byte
     → (bytes_of text ≡ with_byte (Some byte) (bytes_of (take (length text - 3) (drop 3 text)))) × (length (take (length text - 3) (drop 3 text)) < length text)
 coded_ok text byte long is pair =
-    rw (rest_is 3 text) (first_coded text long is ∙ ap (λ (p : Option ℕ). with_byte p (bytes_of (drop 3 text))) pair, omega (arith, length-drop 3 text))
+    let rest : take (length text - 3) (drop 3 text) ≡ drop 3 text =
+    ap (λ (k : ℕ). take k (drop 3 text)) (sym (length-drop 3 text)) ∙ take-length (drop 3 text) in
+    rw rest (first_coded text long is ∙ ap (λ (p : Option ℕ). with_byte p (bytes_of (drop 3 text))) pair, omega (arith, length-drop 3 text))
 
 pub plain_ok : (text : List ℕ) → 0 < length text → is_plain (get_or text 0 0) ≡ true
     → (bytes_of text ≡ with_byte (Some (get_or text 0 0)) (bytes_of (take (length text - 1) (drop 1 text)))) × (length (take (length text - 1) (drop 1 text)) < length text)
-plain_ok text some passes = rw (rest_is 1 text) (first_plain text some passes, omega (arith, length-drop 1 text))
+plain_ok text some passes =
+    let rest : take (length text - 1) (drop 1 text) ≡ drop 1 text =
+    ap (λ (k : ℕ). take k (drop 1 text)) (sym (length-drop 1 text)) ∙ take-length (drop 1 text) in
+    rw rest (first_plain text some passes, omega (arith, length-drop 1 text))
 
 pub coded_err : (fault : WordFault) (text : List ℕ) → 3 ≤ length text → get_or text 0 0 ≡ 37 → Fails fault (hex_pair (get_or text 1 0) (get_or text 2 0)) → Fails fault (bytes_of text)
 coded_err OffGrammar text long is none = first_coded text long is ∙ ap (λ (p : Option ℕ). with_byte p (bytes_of (drop 3 text))) none

@@ -1,5 +1,5 @@
 -- What a growth at a list's end leaves where it broke off.
-use Rattle.std.proofs.Common.{◌≡◌, ℕ, List, ◌++◌, length, take, Result, Ok, Err, OnErr, arith, refl, sym, ap, ◌∙◌, length-append}
+use Rattle.std.proofs.Common.{◌≡◌, ℕ, List, ◌++◌, length, take, arith, refl, sym, ap, ◌∙◌, length-append}
 use Rattle.std.proofs.lemmas.List.{take_at, take-take}
 
 -- what begins with a longer front begins with the front of that
@@ -7,7 +7,3 @@ pub front_before : (old text front new : List ℕ) → front ≡ old ++ text →
 front_before old text front new longer begins =
     sym (take-take (length old) (length front) new (omega (arith, ap length longer, length-append old text)))
     ∙ ap (take (length old)) (begins ∙ longer) ∙ take_at old text (length old) refl
-
-pub on_err : {T E : Type 0} (r : Result T E) (P : Type 0) → P → OnErr r P
-on_err (Ok x) P p = tt
-on_err (Err e) P p = p

@@ -15,7 +15,8 @@ use Rattle.pb_names.specs.Named.{Named, object, marker, IsNamed}
 use Rattle.pb_names.specs.Ranges.{is_object}
 use Rattle.pb_names.specs.Spelling.{object_name}
 use Rattle.pb_names.proofs.NamedLemmas.{names_are_apart, prefix_tells_shared}
-use Rattle.pb_names.proofs.RangeLemmas.{tests_tell_marker_numbers, tests_tell_objects, tests_tell_stores}
+use Rattle.pb_names.proofs.RangeLemmas.{tests_tell_marker_numbers, tests_tell_objects, tests_tell_stores, object_is}
+use Rattle.pb_names.proofs.Makers.{object_name-injective}
 use Rattle.pb_marker_world.specs.Machine.{Marker, same_identity, same_marker, with_object, without_object, with_marker, without_marker}
 use Rattle.pb_marker_world.specs.Bucket.{IsMarker, is_marker, name_of, shown_names, is_shared_name, IsInForm, NamesInForm}
 use Rattle.pb_marker_world.proofs.Worlds.{names_path}
@@ -58,9 +59,6 @@ has_deleted objects name q =
 
 -- ---- in form
 
-pub object_in_form : (o : Identity) → is_object o ≡ true → IsObject o
-object_in_form o = (tests_tell_objects o).0
-
 pub is_object_of : (o : Identity) → IsObject o → is_object o ≡ true
 is_object_of o = (tests_tell_objects o).1
 
@@ -69,7 +67,7 @@ marker_in_form m p =
     let u = and_parts _ _ p in
     let z = and_parts _ _ u.1 in
     record {
-      object = object_in_form m.object u.0;
+      object = object_is m.object u.0;
       store = (tests_tell_stores m.store).0 z.0;
       number = (tests_tell_marker_numbers m.number).0 z.1;
     }
@@ -98,9 +96,6 @@ same_as_named m n p =
 
 pub one_marker : (m n : Marker) → IsMarker m → IsMarker n → name_of m ≡ name_of n → m ≡ n
 one_marker m n a b p = same_as_named m n (names_are_apart (as_named m) (as_named n) (marker_named m a) (marker_named n b) p)
-
-pub one_object : (o q : Identity) → IsObject o → IsObject q → object_name o ≡ object_name q → o ≡ q
-one_object o q a b p = same_object o q (names_are_apart (object o) (object q) a b p)
 
 pub no_object_is_marker : (o : Identity) (m : Marker) → IsObject o → IsMarker m → object_name o ≡ name_of m → ⊥
 no_object_is_marker o m a b p =
@@ -138,7 +133,7 @@ module _ (objects : Objects) (name bytes : List ℕ) where
       ap (λ x. is_object q && x) (has_put objects name bytes (object_name q))
       ∙ put_here (is_object q) (is_name (object_name q) name) (same_identity q o) (contains_key objects (object_name q))
       (λ f. same_tests _ _
-      (λ x. identity_self q o (one_object q o (object_in_form q f) form (same_name _ _ x ∙ is)))
+      (λ x. identity_self q o (object_name-injective q o (object_is q f) form (same_name _ _ x ∙ is)))
       (λ x. name_itself _ _ (ap object_name (identity_is q o x) ∙ sym is)))
       (λ x. ap is_object (identity_is q o x) ∙ is_object_of o form)
 
@@ -158,7 +153,7 @@ module _ (objects : Objects) (name bytes : List ℕ) where
       ap (λ x. is_object q && x) (has_deleted objects name (object_name q))
       ∙ deleted_here (is_object q) (is_name (object_name q) name) (same_identity q o) (contains_key objects (object_name q))
       (λ f. same_tests _ _
-      (λ x. identity_self q o (one_object q o (object_in_form q f) form (same_name _ _ x ∙ is)))
+      (λ x. identity_self q o (object_name-injective q o (object_is q f) form (same_name _ _ x ∙ is)))
       (λ x. name_itself _ _ (ap object_name (identity_is q o x) ∙ sym is)))
 
   pub markers_deleted : (m : Marker) → IsMarker m → name ≡ name_of m → (q : Marker)
@@ -176,7 +171,7 @@ module _ (objects : Objects) (name bytes : List ℕ) where
   objects_stay_put apart q =
       ap (λ x. is_object q && x) (has_put objects name bytes (object_name q))
       ∙ put_there (is_object q) (is_name (object_name q) name) (contains_key objects (object_name q))
-      (λ f x. apart q (object_in_form q f) (same_name _ _ x))
+      (λ f x. apart q (object_is q f) (same_name _ _ x))
 
   pub markers_stay_put : ((q : Marker) → IsMarker q → name_of q ≡ name → ⊥) → (q : Marker)
       → (shown_names (insert objects name bytes)).markers q ≡ (shown_names objects).markers q
@@ -190,7 +185,7 @@ module _ (objects : Objects) (name bytes : List ℕ) where
   objects_stay_deleted apart q =
       ap (λ x. is_object q && x) (has_deleted objects name (object_name q))
       ∙ deleted_there (is_object q) (is_name (object_name q) name) (contains_key objects (object_name q))
-      (λ f x. apart q (object_in_form q f) (same_name _ _ x))
+      (λ f x. apart q (object_is q f) (same_name _ _ x))
 
   pub markers_stay_deleted : ((q : Marker) → IsMarker q → name_of q ≡ name → ⊥) → (q : Marker)
       → (shown_names (remove objects name)).markers q ≡ (shown_names objects).markers q

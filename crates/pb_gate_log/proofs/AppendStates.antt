@@ -15,9 +15,8 @@ use Rattle.pb_gate_log.specs.LogFile.{IsLogFile}
 use Rattle.pb_gate_log.specs.Payloads.{HasList, max_payload}
 use Rattle.pb_gate_log.specs.Steps.{MayTear, Torn, IsStaged, Overwrites, Stages}
 use Rattle.pb_gate_log.proofs.LogLemmas.{opened_log, staged_log, staged_rest, torn_behind, torn_gate}
-use Rattle.pb_gate_log.proofs.PendingLemmas.{on_err}
-use Rattle.pb_gate_log.proofs.WriteStates.{no_ok}
 use Rattle.pb_gate_log.proofs.LogStates.{AtRest, at_rest, bytes_have, each_has, each_log, log_at, torn_has}
+use Rattle.pb_keys.proofs.Results.{on_err, no_ok}
 
 -- the same log, told by its parts
 pub appends_moved : {T E : Type 0} (log at log' at' : LogPlace) (payload : List ℕ) (old new : Contents) (result : Result T E) → log ≡ at → log' ≡ at'

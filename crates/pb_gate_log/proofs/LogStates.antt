@@ -1,5 +1,6 @@
 -- Which list each image of the file stands for, between the device calls.
 use Rattle.std.proofs.Common.{◌≡◌, ◌⊎◌, ℕ, ◌<◌, List, [], ◌∷◌, length, Option, Some, IsSomeAnd, sym, ap, ◌∙◌, subst, inl, inr, arith}
+use Rattle.std.proofs.lemmas.Option.{same_Some}
 use Rattle.pb_bytes.specs.BigEndian.{number_of}
 use Rattle.pb_devices.specs.Contents.{Contents, MayLeave, KeptAt, KeepsOthers}
 use Rattle.pb_devices.proofs.Options.{some_of, of_some}
@@ -39,9 +40,6 @@ pub four_ones : max_payload < number_of (255 ∷ 255 ∷ 255 ∷ 255 ∷ [])
 unfolding number_of
 four_ones = omega arith
 
-some_same : (found bytes : List ℕ) → Some found ≡ Some bytes → found ≡ bytes
-some_same found bytes is = cc
-
 -- the file is at rest: reads and every image are this log
 pub each_log : (log : LogPlace) (list : List (List ℕ)) (bytes : List ℕ) (disk : Contents) → IsDurable bytes disk log.file → ((image : Option (List ℕ)) → disk.earlier log.file image → ⊥) → IsLogFile log.gate list bytes → length bytes ≡ log.len → EachLog log list disk
 each_log log list bytes disk durable last is sized = record {
@@ -52,7 +50,7 @@ each_log log list bytes disk durable last is sized = record {
         | inr same ↦ of_some image (IsLogFile log.gate list) bytes same is
       ];
   settled = durable_settled bytes disk log.file durable last;
-  sized = λ found there. let same : found ≡ bytes = some_same found bytes (sym there ∙ durable.seen) in ap length same ∙ sized;
+  sized = λ found there. let same : found ≡ bytes = same_Some found bytes (sym there ∙ durable.seen) in ap length same ∙ sized;
 }
 
 -- what a log at rest has in its file

@@ -1,6 +1,5 @@
 -- What may be pending behind a write, and what a power cut then leaves.
-use Rattle.std.proofs.Common.{◌≡◌, ◌⊎◌, ℕ, ◌+◌, ◌<◌, ◌≤◌, max, List, [], length, Option, Some, IsSomeAnd, IfSome, Result, Ok, Err, sym, ap, ◌∙◌, subst, inl, inr, arith}
-use Rattle.std.specs.Result.{OnErr}
+use Rattle.std.proofs.Common.{◌≡◌, ◌⊎◌, ℕ, ◌+◌, ◌<◌, ◌≤◌, max, List, [], length, Option, Some, IsSomeAnd, IfSome, sym, ap, ◌∙◌, subst, inl, inr, arith}
 use Rattle.std.proofs.lemmas.List.{take_all}
 use Rattle.pb_devices.specs.Contents.{Contents, MayLeave, IsSettled, IsTorn}
 use Rattle.pb_devices.specs.DiskCalls.{IsCreated, IsWritten, IsOver, IsScribble, IsScribbled, IsSynced, over}
@@ -113,7 +112,3 @@ over_within old new name at end bytes place is same =
 
 pub within_durable : (at : ℕ) (start : List ℕ) (disk : Contents) (name : List ℕ) → IsWithin at (disk.seen name) → IsDurable start disk name → at ≤ length start
 within_durable at start disk name place durable = is_some_and (disk.seen name) (λ now. at ≤ length now) start durable.seen place
-
-pub on_err : {T E : Type 0} (result : Result T E) (P : Type 0) → P → OnErr result P
-on_err (Ok x) P is = tt
-on_err (Err e) P is = is

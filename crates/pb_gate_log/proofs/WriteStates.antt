@@ -1,7 +1,6 @@
 -- What a call that writes within a range leaves: after a failure, and once it is synced.
-use Rattle.std.proofs.Common.{◌≡◌, ℕ, ◌+◌, ◌≤◌, max, List, [], ◌∷◌, ◌++◌, length, take, Option, IsSomeAnd, Result, Ok, Err, refl, sym, subst, ◌∙◌, ap, arith}
-use Rattle.std.specs.Result.{IsErr, OnOk}
-use Rattle.std.proofs.lemmas.Bool.{false≢true}
+use Rattle.std.proofs.Common.{◌≡◌, ℕ, ◌+◌, ◌≤◌, max, List, [], ◌∷◌, ◌++◌, length, take, Option, IsSomeAnd, Result, Ok, refl, sym, subst, ◌∙◌, ap, arith}
+use Rattle.std.specs.Result.{IsErr}
 use Rattle.pb_bytes.specs.BigEndian.{be32}
 use Rattle.pb_devices.specs.Contents.{Contents, KeepsOthers}
 use Rattle.pb_devices.specs.DiskCalls.{StaysAt, IsOver, IsSynced, over}
@@ -10,7 +9,8 @@ use Rattle.pb_devices.proofs.Kept.{kept_then, synced_kept}
 use Rattle.pb_devices.proofs.Over.{length-over}
 use Rattle.pb_gate_log.specs.Steps.{IsPending, IsWriting, Overwrites, Stages}
 use Rattle.pb_gate_log.proofs.LogLemmas.{staged_front}
-use Rattle.pb_gate_log.proofs.PendingLemmas.{durable_pending, left_by, on_err, synced_durable, within_durable}
+use Rattle.pb_gate_log.proofs.PendingLemmas.{durable_pending, left_by, synced_durable, within_durable}
+use Rattle.pb_keys.proofs.Results.{on_err, no_ok}
 
 pub writing_then : (from to : ℕ) (first mid last : Contents) (file : List ℕ) → IsWriting from to first mid file → IsWriting from to mid last file → IsWriting from to first last file
 writing_then from to first mid last file a b = record {
@@ -33,10 +33,6 @@ writing_stays from to old new file stays others = record {
   earlier = stays.earlier;
   others = others;
 }
-
-pub no_ok : {T E : Type 0} (result : Result T E) (P : Type 0) → IsErr result → OnOk result P
-no_ok (Ok value) P is = absurd (false≢true is)
-no_ok (Err error) P is = tt
 
 module _ {T E : Type 0} (result : Result T E) (is : IsErr result) (file : List ℕ) (old new : Contents) where
   pub overwrites_err : (at : ℕ) (bytes : List ℕ) → IsWithin at (old.seen file) → IsWriting at (at + length bytes) old new file

@@ -1,7 +1,7 @@
 -- Counted lists of items of which no spelling begins another: one list has the bytes, and how far a list is read.
 use Rattle.std.proofs.Common.{◌≡◌, ℕ, suc, ◌+◌, ◌<◌, ◌≤◌, ◌^◌, List, [], ◌∷◌, ◌++◌, length, refl, sym, ap, ◌∙◌, arith, append_assoc, length-append}
 use Rattle.std.specs.List.{All, flat_map}
-use Rattle.std.proofs.lemmas.List.{append-nil, flat_map_more}
+use Rattle.std.proofs.lemmas.List.{append-nil, flat_map_more, nil_from_length}
 use Rattle.std.proofs.lemmas.List.Elements.{All-nil, All-append, All-cons}
 use Rattle.pb_bytes.specs.Varint.{varint}
 use Rattle.pb_bytes.proofs.ReadingLemmas.{one_varint}
@@ -30,10 +30,6 @@ continues spelling Form one (a ∷ read) (b ∷ whole) left behind formed all wi
     let next = continues spelling Form one read whole left behind (λ k d h. formed (suc k) d (omega arith)) (λ k d h. all (suc k) d (omega arith)) (omega arith) first.1 in
     record { others = next.others; joined = λ i. sym first.0 i ∷ next.joined i; in_form = next.in_form; spelled = next.spelled }
 
-no_items : {X : Type 0} (items : List X) → length items ≡ 0 → items ≡ []
-no_items [] none = refl
-no_items (x ∷ items) none = absurd (omega arith)
-
 -- bytes begin with one counted list at most
 pub one_counted : {X : Type 0} (spelling : X → List ℕ) (Form : X → Type 0) → OneStart spelling Form
     → (a b : List X) (x y : List ℕ) → All Form a → All Form b → length a < 2 ^ 64 → length b < 2 ^ 64
@@ -45,7 +41,7 @@ one_counted {X = X} spelling Form one a b x y a_formed b_formed a_fits b_fits sa
     let as_many : length a ≡ length b = number.0 in
     let rest = continues spelling Form one a b x y a_formed b_formed (omega arith) number.1 in
     let sum : length b ≡ length a + length rest.others = ap length rest.joined ∙ length-append a rest.others in
-    let none : rest.others ≡ [] = no_items rest.others (omega arith) in
+    let none : rest.others ≡ [] = nil_from_length rest.others (omega arith) in
     (sym (rest.joined ∙ ap (λ (others : List X). a ++ others) none ∙ append-nil a), rest.spelled ∙ ap (λ (others : List X). flat_map spelling others ++ y) none)
 
 -- so many items are to be read, and these were; the rest is left

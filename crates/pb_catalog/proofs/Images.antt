@@ -5,7 +5,7 @@ use Rattle.pb_devices.specs.Contents.{Contents, MayLeave, KeptAt, KeepsOthers}
 use Rattle.pb_devices.proofs.Kept.{kept_same, kept_then}
 use Rattle.pb_gate_log.specs.Calls.{Appends, Makes}
 use Rattle.pb_gate_log.specs.EachLog.{LogPlace, EachLog}
-use Rattle.pb_gate_log.specs.Payloads.{HasList, payloads_in}
+use Rattle.pb_gate_log.specs.Payloads.{HasList}
 use Rattle.pb_gate_log.proofs.LogStates.{each_has, each_kept_at}
 use Rattle.std.specs.Prelude.{◌||◌}
 use Rattle.std.specs.List.{All}
@@ -34,10 +34,6 @@ catalog_at id entries log = record { id = id; entries = entries; log = log }
 pub list_says : (id : ℕ) (entries : Entries) (list : List (List ℕ)) (file : Option (List ℕ)) → HasList list file → SaysCatalogue list (with_id id entries) → HasCatalogue id entries file
 list_says id entries list None has says = absurd has
 list_says id entries list (Some bytes) has says = subst (λ (l : List (List ℕ)). SaysCatalogue l (with_id id entries)) (sym has) says
-
-pub list_is : (list : List (List ℕ)) (file : Option (List ℕ)) → HasList list file → payloads_in file ≡ list
-list_is list None has = absurd has
-list_is list (Some bytes) has = has
 
 pub each_says : (catalog : CatalogView) (disk : Contents) → EachCatalogue catalog disk → (image : Option (List ℕ)) → MayLeave disk catalog.log.file image → HasCatalogue catalog.id catalog.entries image
 each_says catalog disk each image left =

@@ -11,8 +11,8 @@ use Rattle.pb_catalog.specs.Calls.{Changes}
 use Rattle.pb_catalog.specs.Catalog.{CatalogView, EachCatalogue, IsEntered}
 use Rattle.pb_catalog.specs.Entered.{entries_of}
 use Rattle.pb_catalog.proofs.Images.{catalog_at, changes_by, changes_nothing, drop_after, drop_in_form, each_grown}
-use Rattle.pb_catalog.proofs.Results.{not_ok}
 use Rattle.pb_catalog.proofs.catalog.Catalog.drop_entry.Goals as goal
+use Rattle.pb_keys.proofs.Results.{no_ok}
 
 pub returns-in_err-gone-clause-changes : goal.returns-in_err-gone-clause-changes
 returns-in_err-gone-clause-changes g c told =
@@ -28,7 +28,7 @@ returns-in_err-append-clause-changes g c told =
     subst (λ (v : CatalogView). Changes v (catalog_at inside.id inside.entries c.append.new.log) (dropped c.args.number v.entries) old new c.from_residual-in_err-append.result) c.self.view_is
     (changes_by inside (catalog_at inside.id inside.entries c.append.new.log) (Dropped c.args.number) (dropped c.args.number inside.entries) c.as_slice.result.now old new _ c.from_residual-in_err-append.result
     each (drop_in_form inside.entries c.args.number there c.self.invariant.in_form) (drop_after inside.entries c.args.number there) (c.as_slice.ensures.value ∙ c.in_ok-gone.ensures.ok)
-    (c.in_err-append.ensures.appends told) (not_ok c.from_residual-in_err-append.result _ c.from_residual-in_err-append.ensures.0))
+    (c.in_err-append.ensures.appends told) (no_ok c.from_residual-in_err-append.result _ c.from_residual-in_err-append.ensures.0))
 
 pub invariant_of-self-2 : goal.invariant_of-self-2
 invariant_of-self-2 g c = record {

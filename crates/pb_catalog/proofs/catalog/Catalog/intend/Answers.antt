@@ -9,8 +9,8 @@ use Rattle.pb_catalog.specs.Calls.{Changes}
 use Rattle.pb_catalog.specs.Catalog.{CatalogView, EachCatalogue}
 use Rattle.pb_catalog.specs.Entered.{entries_of}
 use Rattle.pb_catalog.proofs.Images.{catalog_at, changes_by, changes_nothing, each_grown, enter_after}
-use Rattle.pb_catalog.proofs.Results.{not_ok}
 use Rattle.pb_catalog.proofs.catalog.Catalog.intend.Goals as goal
+use Rattle.pb_keys.proofs.Results.{no_ok}
 
 pub returns-in_err-payload-clause-changes : goal.returns-in_err-payload-clause-changes
 returns-in_err-payload-clause-changes g c told =
@@ -39,7 +39,7 @@ returns-in_err-append-clause-changes g c told =
     let spelled : c.as_slice.result.now ≡ catalogued_spelling (Entered c.args.number (standing_of c.args.entry)) = c.as_slice.ensures.value ∙ c.in_ok-payload.ensures.ok in
     subst (λ (v : CatalogView). Changes v now (v.entries ++ (c.args.number, standing_of c.args.entry) ∷ []) old new result) c.self.view_is
     (changes_by inside now (Entered c.args.number (standing_of c.args.entry)) (inside.entries ++ (c.args.number, standing_of c.args.entry) ∷ []) c.as_slice.result.now old new _ result
-    each c.requires.in_form grows spelled (c.in_err-append.ensures.appends told) (not_ok result _ c.from_residual-in_err-append.ensures.0))
+    each c.requires.in_form grows spelled (c.in_err-append.ensures.appends told) (no_ok result _ c.from_residual-in_err-append.ensures.0))
 
 pub returns-clause-changes : goal.returns-clause-changes
 returns-clause-changes g c told =

@@ -13,7 +13,7 @@ use Rattle.pb_version.specs.Edited.{comes_before, physical_table, virtual_table,
 use Rattle.pb_version.specs.Rules.{each_pair, has_number, has_backing, has_virtual, is_freed, is_reserved, is_backing_anew, keeps_v1, keeps_v5, keeps_v7, keeps_v9}
 use Rattle.pb_version.specs.State.{IsVersion}
 use Rattle.pb_version.specs.Judged.{seven, total}
-use Rattle.pb_version.proofs.Lists.{left, right, list_any_filter, length_all_placed}
+use Rattle.pb_version.proofs.Lists.{left, right, list_any_filter, length_all_placed, always}
 use Rattle.pb_version.proofs.Pairs.{weaker, filter_keeps, pairs_filter}
 use Rattle.pb_version.proofs.Levels.{flattened_cons, seven_map}
 use Rattle.pb_version.proofs.Counts.{count, length_count, in_one_level, same_length}
@@ -92,10 +92,6 @@ pairs_weaker p r s gives (x ∷ xs) e d =
     weaker (λ y. p y && r x y) (s x) (λ y h. gives x y here (left (p y) (r x y) h) (right (p y) (r x y) h)) xs
     (both_all p (r x) xs later (left (list_all (r x) xs) (each_pair r xs) d)) i
     && pairs_weaker p r s gives xs later (right (list_all (r x) xs) (each_pair r xs) d) i
-
-always : {X : Type 0} (xs : List X) → list_all (λ x. true) xs ≡ true
-always [] = refl
-always (x ∷ xs) = always xs
 
 filter_passes : {X : Type 0} (p : X → Bool) (xs : List X) → list_all p (filter p xs) ≡ true
 filter_passes p [] = refl

@@ -22,16 +22,12 @@ use Rattle.pb_version.specs.State.{IsVersion, is_below_next}
 use Rattle.pb_version.specs.Judged.{level_is_apart, keep_their_backings, orphans_no_backing, orphan_no_backing, is_shown_after}
 use Rattle.pb_version.specs.Meaning.{layer_of_table, map_of}
 use Rattle.pb_version.specs.Flush.{flush_item, flush_edit, flush_table, with_layer, MayFlush}
-use Rattle.pb_version.proofs.Lists.{left, right, filter_all}
+use Rattle.pb_version.proofs.Lists.{left, right, filter_all, always}
 use Rattle.pb_version.proofs.Pairs.{weaker}
 use Rattle.pb_version.proofs.Levels.{flattened_cons, list_all_flattened, all_each, two_of_each, levels_from}
 use Rattle.pb_version.proofs.Commute.{first_placed}
 use Rattle.pb_version.proofs.Ruled.{OnLevels, news, after, v4, v6, v7}
 use Rattle.pb_version.proofs.MeaningLaws.{map_of-newest_first}
-
-always : {X : Type 0} (xs : List X) → list_all (λ x. true) xs ≡ true
-always [] = refl
-always (x ∷ xs) = always xs
 
 deeper_not : (k : ℕ) → 1 ≤ k → (0 == k) ≡ false
 deeper_not k h = grind (arith, nat_tests)

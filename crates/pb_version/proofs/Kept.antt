@@ -56,7 +56,7 @@ differ_bool m n x y f =
 pub view_span : (t : TableView) → is_plain_view t.view ≡ true → is_span t.view.bounds ≡ true
 view_span t e = right (is_mapping t.view) (is_span t.view.bounds) (left (is_view t.view) (has_no_parts t.view) e)
 
-rises : (t : TableView) → is_plain_view t.view ≡ true → is_below t.view.bounds.lo t.view.bounds.hi ≡ true
+pub rises : (t : TableView) → is_plain_view t.view ≡ true → is_below t.view.bounds.lo t.view.bounds.hi ≡ true
 rises t e = right (is_end t.view.bounds.lo && is_end t.view.bounds.hi) (is_below t.view.bounds.lo t.view.bounds.hi) (view_span t e)
 
 -- of spans that are not empty and don't overlap one starts below the other
@@ -75,7 +75,7 @@ starts_differ tl th ul uh p q no_overlap =
           ] refl
     ] refl
 
-apart_bool : (m n : ℕ) (o : Bool) → (not (m == n) || not o) ≡ true → (m == n) ≡ true → not o ≡ true
+pub apart_bool : (m n : ℕ) (o : Bool) → (not (m == n) || not o) ≡ true → (m == n) ≡ true → not o ≡ true
 apart_bool m n o e s = sym (ap (λ b. not b || not o) s) ∙ e
 
 start_differs : (t u : TableView) → is_plain_view t.view ≡ true → is_plain_view u.view ≡ true →

@@ -53,7 +53,7 @@ ranks_of shown ps vs =
 
 -- ---- backings in order
 
-lower_chain : (a b c : ℕ) → nat_lt a b ≡ true → nat_lt b c ≡ true → nat_lt a c ≡ true
+pub lower_chain : (a b c : ℕ) → nat_lt a b ≡ true → nat_lt b c ≡ true → nat_lt a c ≡ true
 lower_chain a b c e k = grind (arith, nat_tests)
 
 pub backings_chain : IsTransitive created_below

@@ -1,9 +1,9 @@
 -- What is said of each level, and of the tables of all levels taken together.
-use Rattle.std.proofs.Common.{◌≡◌, ℕ, ◌+◌, List, [], ◌∷◌, ◌++◌, Bool, true, false, cond, get_or, length, suc, refl, ap, sym, ◌∙◌, arith, length-append}
+use Rattle.std.proofs.Common.{◌≡◌, ℕ, ◌+◌, List, [], ◌∷◌, ◌++◌, Bool, true, false, cond, get_or, length, suc, refl, ap, sym, ◌∙◌, arith, length-append, ◌<◌, drop, zero}
 use Rattle.std.proofs.lemmas.Bool.Decides.{nat_tests}
-use Rattle.std.proofs.lemmas.List.{append-nil}
+use Rattle.std.proofs.lemmas.List.{append-nil, drop_more}
 use Rattle.std.proofs.lemmas.List.Folds.{list_all-append}
-use Rattle.std.specs.Prelude.{not, ◌==◌, ◌&&◌, ◌||◌, map}
+use Rattle.std.specs.Prelude.{not, ◌==◌, ◌&&◌, ◌||◌, map, slice_index_or}
 use Rattle.std.specs.List.{list_any, list_all}
 use Rattle.pb_keys.proofs.Tests.{either_groups}
 use Rattle.pb_version.specs.Version.{TableView, flattened}
@@ -151,3 +151,15 @@ length_levels f k [] = refl
 length_levels f k (ts ∷ ls) =
     ap length (flattened_cons (f k ts) (each_level f (k + 1) ls)) ∙ length-append (f k ts) (flattened (each_level f (k + 1) ls))
     ∙ ap (λ n. length (f k ts) + n) (length_levels f (k + 1) ls)
+
+-- ---- at one level
+
+pub level_first : (ls : List (List TableView)) (level : ℕ) (ts : List TableView) → level < length ls → ts ≡ slice_index_or ls level [] →
+    drop level ls ≡ ts ∷ drop (level + 1) ls
+level_first ls level ts within read = drop_more ls level [] within ∙ ap (λ us. us ∷ drop (level + 1) ls) (sym read)
+
+pub test_on : (q : TableView → Bool) (ls : List (List TableView)) (level : ℕ) → list_all (λ ts. list_all q ts) ls ≡ true →
+    list_all q (slice_index_or ls level []) ≡ true
+test_on q [] level e = refl
+test_on q (ts ∷ ls) zero e = left (list_all q ts) (list_all (λ us. list_all q us) ls) e
+test_on q (ts ∷ ls) (suc level) e = test_on q ls level (right (list_all q ts) (list_all (λ us. list_all q us) ls) e)

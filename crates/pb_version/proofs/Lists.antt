@@ -105,3 +105,7 @@ length_placed f x (y ∷ ys) =
 pub length_all_placed : {X : Type 0} (f : X → X → Bool) (xs ys : List X) → length (all_placed f xs ys) ≡ length xs + length ys
 length_all_placed f [] ys = omega arith
 length_all_placed f (x ∷ xs) ys = omega (arith, length_placed f x (all_placed f xs ys), length_all_placed f xs ys)
+
+pub always : {X : Type 0} (xs : List X) → list_all (λ x. true) xs ≡ true
+always [] = refl
+always (x ∷ xs) = always xs

@@ -1,9 +1,11 @@
 -- Tests of pairs, over lists that were filtered and lists into which others were placed; numbers and places of tables.
-use Rattle.std.proofs.Common.{◌≡◌, ℕ, List, [], ◌∷◌, ◌++◌, Bool, true, false, cond, refl, ap, sym, ◌∙◌, eq-eqb}
+use Rattle.std.proofs.Common.{◌≡◌, ℕ, List, [], ◌∷◌, ◌++◌, Bool, true, false, cond, refl, ap, sym, ◌∙◌, eq-eqb, arith}
 use Rattle.std.proofs.lemmas.List.{map-append}
-use Rattle.std.specs.Prelude.{not, ◌==◌, ◌&&◌, ◌||◌, map}
+use Rattle.std.specs.Prelude.{not, ◌==◌, ◌&&◌, ◌||◌, map, nat_lt}
 use Rattle.std.specs.List.{filter, list_any, list_all}
 use Rattle.std.proofs.lemmas.Bool.{eqb-true}
+use Rattle.std.proofs.Math.Bool.{and_comm}
+use Rattle.std.proofs.lemmas.Bool.Decides.{nat_tests}
 use Rattle.pb_edit.specs.Edit.{PhysicalItem, VirtualItem, CreatedItem}
 use Rattle.pb_keys.specs.Order.{is_below}
 use Rattle.pb_keys.specs.Span.{overlap}
@@ -14,14 +16,8 @@ use Rattle.pb_version.specs.Rules.{each_pair, are_apart, are_distinct, is_listed
 use Rattle.pb_version.specs.State.{other_number}
 use Rattle.pb_version.proofs.Lists.{left, right, list_all_placed, list_all_all_placed}
 
-number_turned : (m n : ℕ) → (m == n) ≡ (n == m)
+pub number_turned : (m n : ℕ) → (m == n) ≡ (n == m)
 number_turned m n = same_tests (m == n) (n == m) (λ e. eq-eqb n m (sym (eqb-true m n e))) (λ e. eq-eqb m n (sym (eqb-true n m e)))
-
-and_turned : (a b : Bool) → (a && b) ≡ (b && a)
-and_turned true true = refl
-and_turned true false = refl
-and_turned false true = refl
-and_turned false false = refl
 
 not_or : (a b : Bool) → not (a || b) ≡ (not a && not b)
 not_or true b = refl
@@ -51,7 +47,13 @@ weaker p q gives (x ∷ xs) e = λ i. gives x (left (p x) (list_all p xs) e) i &
 
 -- ---- lists into which others were placed
 
-and_crossed : (a b c d : Bool) → ((a && b) && (c && d)) ≡ ((a && c) && (b && d))
+pub not_lower : (n : ℕ) → nat_lt n n ≡ false
+not_lower n = grind (arith, nat_tests)
+
+pub lower_differs : (m n : ℕ) → nat_lt m n ≡ true → not (n == m) ≡ true
+lower_differs m n e = grind (arith, nat_tests)
+
+pub and_crossed : (a b c d : Bool) → ((a && b) && (c && d)) ≡ ((a && c) && (b && d))
 and_crossed true true c d = refl
 and_crossed true false true d = refl
 and_crossed true false false d = refl
@@ -88,7 +90,7 @@ pub apart_turned : (level : ℕ) (t u : TableView) → are_apart level t u ≡ a
 unfolding overlap
 apart_turned level t u = λ i.
     (level == 0 && not (number_turned t.rank u.rank i))
-    || not (and_turned (is_below t.view.bounds.lo u.view.bounds.hi) (is_below u.view.bounds.lo t.view.bounds.hi) i)
+    || not (and_comm (is_below t.view.bounds.lo u.view.bounds.hi) (is_below u.view.bounds.lo t.view.bounds.hi) i)
 
 pub other_turned : (t u : TableView) → other_number t u ≡ other_number u t
 other_turned t u = ap not (number_turned u.number t.number)

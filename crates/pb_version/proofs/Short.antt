@@ -1,11 +1,11 @@
 -- How long an edit that breaks no rule is spelled.
-use Rattle.std.proofs.Common.{◌≡◌, ℕ, ◌+◌, ◌*◌, ◌≤◌, ◌<◌, suc, List, [], ◌∷◌, ◌++◌, Bool, true, length, refl, ap, ◌∙◌, sym, arith, length-append, inl, inr}
+use Rattle.std.proofs.Common.{◌≡◌, ℕ, ◌+◌, ◌*◌, ◌≤◌, ◌<◌, suc, List, [], ◌∷◌, ◌++◌, Bool, true, length, ap, ◌∙◌, sym, arith, length-append, inl, inr}
 use Rattle.std.proofs.Math.Nat.{suc-mul}
 use Rattle.std.proofs.lemmas.List.Folds.{list_all-append, list_all-map}
 use Rattle.std.specs.Prelude.{◌&&◌, map, nat_lt, Option, Some, None}
 use Rattle.std.specs.List.{list_all}
 use Rattle.pb_bytes.specs.Varint.{varint, field}
-use Rattle.pb_bytes.proofs.VarintLemmas.{length-groups}
+use Rattle.pb_bytes.proofs.VarintLemmas.{length-varint}
 use Rattle.pb_edit.specs.Edit.{DeletedItem, PhysicalItem, VirtualItem, CreatedItem, VersionEdit}
 use Rattle.pb_edit.specs.Grammar.{IsEdit, number_item, items, deleted_content, physical_content, virtual_content, created_content, removed_content, numbers_spelling, lists_spelling, edit_spelling}
 use Rattle.pb_keys.specs.Span.{IsSpan, span_of}
@@ -16,7 +16,7 @@ use Rattle.pb_version.specs.Edited.{physical_table, virtual_table, shown_backing
 use Rattle.pb_version.specs.Rules.{has_no_parts, is_plain_view, keeps_v1, keeps_v3, keeps_v5, keeps_v7, keeps_v9, first_broken}
 use Rattle.pb_version.specs.State.{IsVersion}
 use Rattle.pb_version.specs.Snapshot.{snapshot_of}
-use Rattle.pb_version.proofs.Lists.{left, right}
+use Rattle.pb_version.proofs.Lists.{left, right, always}
 use Rattle.pb_version.proofs.Few.{deleted_few, new_few, created_few, removed_few}
 use Rattle.pb_version.proofs.Installing.{unbroken_keeps}
 use Rattle.pb_version.proofs.SaysVersion.{empty_is_version}
@@ -25,13 +25,9 @@ use Rattle.pb_version.proofs.SnapshotSpelling.{snapshot_in_form}
 
 -- ---- parts of an item
 
-varint_short : (n : ℕ) → length (varint n) ≤ 10
-unfolding varint
-varint_short n = length-groups 10 n
-
 field_short : (bytes : List ℕ) (n : ℕ) → length bytes ≤ n → length (field bytes) ≤ 10 + n
 unfolding field
-field_short bytes n h = omega (arith, length-append (varint (length bytes)) bytes, varint_short (length bytes))
+field_short bytes n h = omega (arith, length-append (varint (length bytes)) bytes, length-varint (length bytes))
 
 suffix_short : (bytes : List ℕ) → IsSuffix bytes → length bytes ≤ 1024
 suffix_short bytes is = elim is [
@@ -42,7 +38,7 @@ suffix_short bytes is = elim is [
 -- ---- items
 
 deleted_short : (d : DeletedItem) → length (deleted_content d) ≤ 11
-deleted_short d = omega (arith, varint_short d.number)
+deleted_short d = omega (arith, length-varint d.number)
 
 physical_short : (p : PhysicalItem) → is_plain_view (physical_table p).view ≡ true → length (physical_content p) ≤ 2101
 physical_short p plain =
@@ -54,9 +50,9 @@ physical_short p plain =
       length-append (varint p.rank) (varint p.size ++ ends),
       length-append (varint p.size) ends,
       length-append (field p.lo) (field p.hi),
-      varint_short p.number,
-      varint_short p.rank,
-      varint_short p.size,
+      length-varint p.number,
+      length-varint p.rank,
+      length-varint p.size,
       field_short p.lo 1025 view.bounds.lo.within,
       field_short p.hi 1025 view.bounds.hi.within,
     )
@@ -75,9 +71,9 @@ virtual_short backings v plain =
       length-append (field v.lo) (field v.hi ++ parts),
       length-append (field v.hi) parts,
       length-append (field v.prefix) (field v.suffix),
-      varint_short v.number,
-      varint_short v.rank,
-      varint_short v.backing,
+      length-varint v.number,
+      length-varint v.rank,
+      length-varint v.backing,
       field_short v.lo 1025 view.bounds.lo.within,
       field_short v.hi 1025 view.bounds.hi.within,
       field_short v.prefix 1024 view.mapping.prefix.within,
@@ -85,7 +81,7 @@ virtual_short backings v plain =
     )
 
 created_short : (c : CreatedItem) → length (created_content c) ≤ 20
-created_short c = omega (arith, length-append (varint c.number) (varint c.size), varint_short c.number, varint_short c.size)
+created_short c = omega (arith, length-append (varint c.number) (varint c.size), length-varint c.number, length-varint c.size)
 
 -- ---- lists of items
 
@@ -100,13 +96,9 @@ items_short kind content most q short (x ∷ xs) e = omega (
   suc-mul (length xs) (suc most),
 )
 
-always : {X : Type 0} (xs : List X) → list_all (λ x. true) xs ≡ true
-always [] = refl
-always (x ∷ xs) = always xs
-
 number_short : (kind : ℕ) (number : Option ℕ) → length (number_item kind number) ≤ 11
 number_short kind None = omega arith
-number_short kind (Some n) = omega (arith, varint_short n)
+number_short kind (Some n) = omega (arith, length-varint n)
 
 numbers_short : (e : VersionEdit) → length (numbers_spelling e) ≤ 55
 numbers_short e =
@@ -164,7 +156,7 @@ module _ (old : VersionView) (edit : VersionEdit) (form : IsEdit edit) (is : IsV
         items_short 7 physical_content 2101 (λ (p : PhysicalItem). is_plain_view (physical_table p).view) physical_short edit.physical both.0,
         items_short 8 virtual_content 4169 (λ (v : VirtualItem). is_plain_view (virtual_table (shown_backings old edit) v).view) (virtual_short (shown_backings old edit)) edit.virtuals both.1,
         items_short 9 created_content 20 (λ c. true) (λ c _. created_short c) edit.created (always edit.created),
-        items_short 10 removed_content 10 (λ n. true) (λ n _. varint_short n) edit.removed (always edit.removed),
+        items_short 10 removed_content 10 (λ n. true) (λ n _. length-varint n) edit.removed (always edit.removed),
         deleted_few old edit form is v1,
         new_few old edit form is v9,
         created_few old edit form is v5 v7 v9,

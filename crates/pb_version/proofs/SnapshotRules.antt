@@ -5,6 +5,7 @@ use Rattle.std.proofs.lemmas.List.{append-nil}
 use Rattle.std.proofs.lemmas.List.Folds.{list_all-map}
 use Rattle.std.specs.Prelude.{not, ◌==◌, ◌&&◌, ◌||◌, nat_lt, nat_le, map, Some, None}
 use Rattle.std.specs.List.{filter, list_all}
+use Rattle.std.proofs.lemmas.List.Elements.{filter-append}
 use Rattle.pb_edit.specs.Edit.{PhysicalItem, VirtualItem, CreatedItem, VersionEdit}
 use Rattle.pb_edit.specs.Grammar.{created_below}
 use Rattle.pb_version.specs.declared.broken.Broken.TheVariants.{V1, V2, V3, V4, V5, V6, V7, V8, V9}
@@ -15,7 +16,7 @@ use Rattle.pb_version.specs.State.{IsVersion, other_number, is_below_next, is_fo
 use Rattle.pb_version.specs.Judged.{all_levels, seven}
 use Rattle.pb_version.specs.Snapshot.{physical_items, virtual_items, snapshot_of}
 use Rattle.pb_version.specs.Fold.{FoldsTo}
-use Rattle.pb_version.proofs.Lists.{left, right, filter_all}
+use Rattle.pb_version.proofs.Lists.{left, right, filter_all, always}
 use Rattle.pb_version.proofs.Levels.{flattened_cons, list_all_flattened, levels_all, levels_both, each_is_seven}
 use Rattle.pb_version.proofs.Counts.{once, once_each, count_all_placed}
 use Rattle.pb_version.proofs.Pairs.{weaker, pairs_all_placed, apart_turned, distinct_numbers, numbers_of}
@@ -26,21 +27,9 @@ use Rattle.pb_version.proofs.FoldLaws.{folds_first}
 use Rattle.pb_version.proofs.Snapshots.{placed_again}
 use Rattle.pb_version.proofs.SnapshotSpelling.{physical_on, virtual_on, levels_above, snapshot_spellable}
 
-always : {X : Type 0} (xs : List X) → list_all (λ x. true) xs ≡ true
-always [] = refl
-always (x ∷ xs) = always xs
-
 -- ---- the items of one level among those of all
 
-filter_append : {X : Type 0} (p : X → Bool) (xs ys : List X) → filter p (xs ++ ys) ≡ filter p xs ++ filter p ys
-filter_append p [] ys = refl
-filter_append p (x ∷ xs) ys =
-    elim (p x) as (λ b. cond b (x ∷ filter p (xs ++ ys)) (filter p (xs ++ ys)) ≡ cond b (x ∷ filter p xs) (filter p xs) ++ filter p ys) [
-      | true ↦ ap (λ zs. x ∷ zs) (filter_append p xs ys)
-      | false ↦ filter_append p xs ys
-    ]
-
-filter_none : {X : Type 0} (p : X → Bool) (xs : List X) → list_all (λ x. not (p x)) xs ≡ true → filter p xs ≡ []
+pub filter_none : {X : Type 0} (p : X → Bool) (xs : List X) → list_all (λ x. not (p x)) xs ≡ true → filter p xs ≡ []
 filter_none p [] e = refl
 filter_none p (x ∷ xs) e =
     elim (p x) as (λ b. not b ≡ true → cond b (x ∷ filter p xs) (filter p xs) ≡ []) [
@@ -59,7 +48,7 @@ module _ {Y : Type 0} (level : Y → ℕ) (f : ℕ → List TableView → List Y
       filter (λ y. level y == l) (flattened (each_level f k (ts ∷ ls))) ≡ filter (λ y. level y == l) (f k ts) ++ filter (λ y. level y == l) (flattened (each_level f (k + 1) ls))
   filter_cons l k ts ls =
       ap (filter (λ y. level y == l)) (flattened_cons (f k ts) (each_level f (k + 1) ls))
-      ∙ filter_append (λ y. level y == l) (f k ts) (flattened (each_level f (k + 1) ls))
+      ∙ filter-append (λ y. level y == l) (f k ts) (flattened (each_level f (k + 1) ls))
 
   filter_here : (k : ℕ) (ts : List TableView) (ls : List (List TableView)) → filter (λ y. level y == k) (flattened (each_level f k (ts ∷ ls))) ≡ f k ts
   filter_here k ts ls =

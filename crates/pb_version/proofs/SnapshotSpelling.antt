@@ -29,7 +29,7 @@ use Rattle.pb_version.proofs.Spelling.{at_each}
 
 -- ---- numbers and fields
 
-lower_number : (m n : ℕ) → nat_lt m n ≡ true → IsNumber n → IsNumber m
+pub lower_number : (m n : ℕ) → nat_lt m n ≡ true → IsNumber n → IsNumber m
 lower_number m n e h = omega (arith, ltb-true m n e)
 
 short : (some plain : Bool) (n : ℕ) → (some && nat_le n 1025 && plain) ≡ true → n ≤ 1025
@@ -38,7 +38,7 @@ short some plain n e = let within : nat_le n 1025 ≡ true = right some (nat_le 
 end_field : (bytes : List ℕ) → is_end bytes ≡ true → IsField bytes
 end_field bytes e = omega (arith, short (nat_le 1 (length bytes)) (has_no_at bytes) (length bytes) e)
 
-no_field : (bytes : List ℕ) → (length bytes == 0) ≡ true → IsField bytes
+pub no_field : (bytes : List ℕ) → (length bytes == 0) ≡ true → IsField bytes
 no_field bytes e = omega (arith, eqb-true (length bytes) 0 e)
 
 record HasFields (t : TableView) : Type 0 where
@@ -163,19 +163,19 @@ pub each_append : {X : Type 0} (P : X → Type 0) (xs ys : List X) → AllByRecu
 each_append P [] ys a b = b
 each_append P (x ∷ xs) ys a b = (a.0, each_append P xs ys a.1 b)
 
-pairs_append : {X : Type 0} (r : X → X → Bool) (xs ys : List X) → each_pair r xs ≡ true → each_pair r ys ≡ true → list_all (λ x. list_all (r x) ys) xs ≡ true → each_pair r (xs ++ ys) ≡ true
+pub pairs_append : {X : Type 0} (r : X → X → Bool) (xs ys : List X) → each_pair r xs ≡ true → each_pair r ys ≡ true → list_all (λ x. list_all (r x) ys) xs ≡ true → each_pair r (xs ++ ys) ≡ true
 pairs_append r [] ys e d c = d
 pairs_append r (x ∷ xs) ys e d c = λ i.
     (list_all-append (r x) xs ys ∙ (λ j. left (list_all (r x) xs) (each_pair r xs) e j && left (list_all (r x) ys) (list_all (λ y. list_all (r y) ys) xs) c j)) i
     && pairs_append r xs ys (right (list_all (r x) xs) (each_pair r xs) e) d (right (list_all (r x) ys) (list_all (λ y. list_all (r y) ys) xs) c) i
 
-pairs_front : {X : Type 0} (r : X → X → Bool) (xs ys : List X) → each_pair r (xs ++ ys) ≡ true → each_pair r xs ≡ true
+pub pairs_front : {X : Type 0} (r : X → X → Bool) (xs ys : List X) → each_pair r (xs ++ ys) ≡ true → each_pair r xs ≡ true
 pairs_front r [] ys e = refl
 pairs_front r (x ∷ xs) ys e = λ i.
     left (list_all (r x) xs) (list_all (r x) ys) (sym (list_all-append (r x) xs ys) ∙ left (list_all (r x) (xs ++ ys)) (each_pair r (xs ++ ys)) e) i
     && pairs_front r xs ys (right (list_all (r x) (xs ++ ys)) (each_pair r (xs ++ ys)) e) i
 
-pairs_back : {X : Type 0} (r : X → X → Bool) (xs ys : List X) → each_pair r (xs ++ ys) ≡ true → each_pair r ys ≡ true
+pub pairs_back : {X : Type 0} (r : X → X → Bool) (xs ys : List X) → each_pair r (xs ++ ys) ≡ true → each_pair r ys ≡ true
 pairs_back r [] ys e = e
 pairs_back r (x ∷ xs) ys e = pairs_back r xs ys (right (list_all (r x) (xs ++ ys)) (each_pair r (xs ++ ys)) e)
 
@@ -236,7 +236,7 @@ placed_sorted f chain item differ ts e = sorted_all_placed f chain (map item ts)
 place_differs : (k m n : ℕ) → not (n == m) ≡ true → (nat_lt k k || (k == k && nat_lt n m)) ≡ not (nat_lt k k || (k == k && nat_lt m n))
 place_differs k m n e = grind (arith, nat_tests)
 
-lower_place : (k l m n : ℕ) → nat_lt k l ≡ true → (nat_lt k l || (k == l && nat_lt m n)) ≡ true
+pub lower_place : (k l m n : ℕ) → nat_lt k l ≡ true → (nat_lt k l || (k == l && nat_lt m n)) ≡ true
 lower_place k l m n e = ap (λ b. b || (k == l && nat_lt m n)) e
 
 physical_sorted : (l : ℕ) (ts : List TableView) → each_pair other_number ts ≡ true → each_pair physical_below (physical_items l ts) ≡ true

@@ -30,11 +30,11 @@ no_suffix : (t : TableView) → is_plain_view t.view ≡ true → [] ≡ t.view.
 no_suffix t e = nothing t.view.suffix (right (length t.view.prefix == 0) (length t.view.suffix == 0) (right (is_view t.view) (has_no_parts t.view) e))
 
 -- the test of a virtual table, or that of a physical one
-chosen : (v a b : Bool) → v ≡ true → cond v a b ≡ true → a ≡ true
+pub chosen : (v a b : Bool) → v ≡ true → cond v a b ≡ true → a ≡ true
 chosen true a b e k = k
 chosen false a b e k = cc
 
-other_chosen : (v a b : Bool) → v ≡ false → cond v a b ≡ true → b ≡ true
+pub other_chosen : (v a b : Bool) → v ≡ false → cond v a b ≡ true → b ≡ true
 other_chosen true a b e k = cc
 other_chosen false a b e k = k
 

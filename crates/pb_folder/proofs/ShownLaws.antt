@@ -16,7 +16,7 @@ use Rattle.pb_names.specs.Ranges.{is_object, is_store}
 use Rattle.pb_names.specs.Spelling.{current_name, file_name, object_name}
 use Rattle.pb_names.specs.declared.file_kind.FileKind.TheVariants.{Manifest, Catalogue, Log, Table}
 use Rattle.pb_names.proofs.NamedLemmas.{prefix_tells_shared}
-use Rattle.pb_names.proofs.RangeLemmas.{tests_tell_stores}
+use Rattle.pb_names.proofs.RangeLemmas.{tests_tell_stores, object_is}
 use Rattle.pb_payloads.specs.Catalogue.{Entries, SaysCatalogue, with_id}
 use Rattle.pb_payloads.specs.Current.{SaysCurrent}
 use Rattle.pb_payloads.specs.Log.{SaysLog}
@@ -31,7 +31,7 @@ use Rattle.pb_marker_world.specs.declared.stages.Stage.TheVariants.{Held, Loose}
 use Rattle.pb_marker_world.specs.Machine.{Entry, Marker}
 use Rattle.pb_marker_world.specs.Bucket.{is_marker, name_of, shown_names, is_shared_name, NamesInForm}
 use Rattle.pb_marker_world.specs.Sound.{IsSettled, IsSound, IsSteady}
-use Rattle.pb_marker_world.proofs.BucketLemmas.{as_named, marker_in_form, marker_named, object_in_form}
+use Rattle.pb_marker_world.proofs.BucketLemmas.{as_named, marker_in_form, marker_named}
 use Rattle.pb_marker_world.proofs.RunLaws.{bare_sound, closed_steady}
 use Rattle.pb_folder.specs.Held.{IsStored, IsTableOf, named_objects}
 use Rattle.pb_folder.specs.Said.{Said, Says}
@@ -111,7 +111,7 @@ module _ (objects : Objects) (free : HasNoShared objects) where
       false_from_ne_true _ (λ y.
       let u = and_parts (is_object o) (contains_key objects (object_name o)) y in
       both_ways (is_shared_name (object_name o)) (free (object_name o) u.1)
-      ((prefix_tells_shared (object o) (object_in_form o u.0)).1 tt))
+      ((prefix_tells_shared (object o) (object_is o u.0)).1 tt))
 
   no_marker : (m : Marker) → (shown_names objects).markers m ≡ false
   no_marker m =

@@ -8,14 +8,16 @@ use Rattle.std.proofs.lemmas.Bool.{and_parts, both_ways, cases_Bool, cond-true, 
 use Rattle.pb_names.specs.Identity.{Identity, IsObject}
 use Rattle.pb_names.specs.Ranges.{is_object, is_store}
 use Rattle.pb_names.specs.Spelling.{marker_name, marker_prefix, object_name}
+use Rattle.pb_names.proofs.RangeLemmas.{object_is}
+use Rattle.pb_names.proofs.Makers.{object_name-injective}
 use Rattle.pb_payloads.specs.Catalogued.{Standing}
 use Rattle.pb_payloads.specs.Catalogued.Standing.{Shared}
 use Rattle.pb_marker_world.specs.declared.stages.Stage.TheVariants.{Held, Counted}
 use Rattle.pb_marker_world.specs.Machine.{Entry, Marker, World, entry_at, own_marker}
 use Rattle.pb_marker_world.specs.Bucket.{IsMarker, is_marker, name_of}
 use Rattle.pb_marker_world.specs.Sound.{is_beginning, IsDoomed, IsLent, IsSound, IsSteady}
-use Rattle.pb_marker_world.proofs.BucketLemmas.{is_name, same_name, marker_in_form, object_in_form}
-use Rattle.pb_marker_world.proofs.BucketLemmas.{one_marker, one_object, no_object_is_marker}
+use Rattle.pb_marker_world.proofs.BucketLemmas.{is_name, same_name, marker_in_form}
+use Rattle.pb_marker_world.proofs.BucketLemmas.{one_marker, no_object_is_marker}
 use Rattle.pb_marker_world.proofs.ShownExamples.{bucket, in_bucket, is_in}
 use Rattle.pb_folder.specs.Said.{Said}
 use Rattle.pb_folder.specs.Shown.{Words, closed_entry, closed_part, closed_world, shared_as, words_of}
@@ -120,7 +122,7 @@ unfolding marker_name marker_prefix object_name digits
 own_spelled = refl
 
 o_form : IsObject o
-o_form = object_in_form o refl
+o_form = object_is o refl
 
 own_form : IsMarker own
 own_form = marker_in_form own refl
@@ -128,9 +130,9 @@ own_form = marker_in_form own refl
 only_object : (q : Identity) → shown.names.objects q ≡ true → q ≡ o
 only_object q there =
     let u = and_parts (is_object q) (contains_key (bucket names) (object_name q)) there in
-    let form = object_in_form q u.0 in
+    let form = object_is q u.0 in
     elim (name_in (object_name q) (sym (in_bucket names (object_name q)) ∙ u.1)) [
-      | inl x ↦ one_object q o form o_form (x ∙ sym object_spelled)
+      | inl x ↦ object_name-injective q o form o_form (x ∙ sym object_spelled)
       | inr x ↦ absurd (no_object_is_marker q own form own_form (x ∙ sym own_spelled))
     ]
 

@@ -1,9 +1,8 @@
 -- Tables that are read one by one, and the layers by number that they are.
-use Rattle.std.proofs.Common.{◌≡◌, ℕ, Bool, true, false, cond, List, [], ◌∷◌, map, Option, Some, None, refl, sym, ap, ◌∙◌, subst, arith}
+use Rattle.std.proofs.Common.{◌≡◌, ℕ, Bool, true, false, cond, List, [], ◌∷◌, map, Option, Some, None, refl, sym, ap, ◌∙◌, subst}
 use Rattle.std.specs.Prelude.{IsSomeAnd, ◌==◌, if◌then◌else◌}
 use Rattle.std.specs.List.{All}
-use Rattle.std.proofs.lemmas.Bool.{eqb-true}
-use Rattle.std.proofs.lemmas.Bool.Decides.{nat_tests}
+use Rattle.std.proofs.lemmas.Bool.{eqb-true, eq-eqb}
 use Rattle.std.proofs.lemmas.List.Elements.{All-nil, All-cons, All-head, All-tail, All-append}
 use Rattle.pb_edit.specs.Edit.{CreatedItem}
 use Rattle.pb_folder.specs.Held.{IsMapped, IsTableOf}
@@ -30,14 +29,11 @@ one_behind places number size other a b is too = one_spelled (places number) siz
 with_layer : ℕ → KeyLayer → (ℕ → KeyLayer) → ℕ → KeyLayer
 with_layer number layer layers n = if n == number then layer else layers n
 
-itself : (n : ℕ) → (n == n) ≡ true
-itself n = grind (arith, nat_tests)
-
 module _ (places : Places) where
   first_has : (item : CreatedItem) (layer : KeyLayer) (layers : ℕ → KeyLayer) → IsBehind places item.number item.size layer → HasTable places (with_layer item.number layer layers) item
   unfolding with_layer
   first_has item layer layers is =
-      subst (λ (b : Bool). IsBehind places item.number item.size (cond b layer (layers item.number))) (sym (itself item.number)) is
+      subst (λ (b : Bool). IsBehind places item.number item.size (cond b layer (layers item.number))) (sym (eq-eqb item.number item.number refl)) is
 
   other_has : (item other : CreatedItem) (layer : KeyLayer) (layers : ℕ → KeyLayer) → IsBehind places item.number item.size layer → HasTable places layers other
       → HasTable places (with_layer item.number layer layers) other

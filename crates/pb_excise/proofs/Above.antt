@@ -10,7 +10,7 @@ use Rattle.pb_keys.proofs.OrderFacts.{below_itself, below_one_way}
 use Rattle.pb_span_cases.specs.Remainder.{remains}
 use Rattle.pb_version.specs.Version.{TableView, VersionView, tables_of_level}
 use Rattle.pb_version.proofs.Lists.{left, right}
-use Rattle.pb_version.proofs.Levels.{list_all_flattened}
+use Rattle.pb_version.proofs.Levels.{list_all_flattened, test_on}
 use Rattle.pb_excise.specs.Excised.{parts_of, part_table, numbered_parts, left_of, parts_count, excised_tables, excised_levels, excised}
 use Rattle.pb_version.specs.Above.{lies_within, MayStand, AddsAbove}
 use Rattle.pb_excise.specs.Unused.{AreUnusedFrom}
@@ -67,12 +67,6 @@ pub first_on_rises : (cut : KeySpan) (first : ℕ) (ls : List (List TableView)) 
 first_on_rises cut first [] level = omega arith
 first_on_rises cut first (ts ∷ ls) zero = omega arith
 first_on_rises cut first (ts ∷ ls) (suc level) = omega (arith, first_on_rises cut (first + parts_count cut ts) ls level)
-
-pub test_on : (q : TableView → Bool) (ls : List (List TableView)) (level : ℕ) → list_all (λ ts. list_all q ts) ls ≡ true →
-    list_all q (slice_index_or ls level []) ≡ true
-test_on q [] level e = refl
-test_on q (ts ∷ ls) zero e = left (list_all q ts) (list_all (λ us. list_all q us) ls) e
-test_on q (ts ∷ ls) (suc level) e = test_on q ls level (right (list_all q ts) (list_all (λ us. list_all q us) ls) e)
 
 -- ---- a table that the cut overlaps is gone
 

@@ -4,9 +4,11 @@ use Rattle.std.proofs.lemmas.Bool.Decides.{nat_tests}
 use Rattle.std.specs.Prelude.{◌⊎◌, not, ◌&&◌, ◌||◌, ◌==◌, nat_lt, map, Some}
 use Rattle.std.specs.List.{filter, list_any, list_all, AllByRecursion}
 use Rattle.std.specs.Option.{unwrap_or}
+use Rattle.std.proofs.lemmas.Bool.{not-true, eq-eqb}
 use Rattle.pb_edit.specs.Edit.{CreatedItem}
 use Rattle.pb_edit.specs.Grammar.{created_below}
 use Rattle.pb_keys.specs.Span.{KeySpan, overlap}
+use Rattle.pb_keys.proofs.Tests.{or_false}
 use Rattle.pb_span_cases.specs.Remainder.{remains}
 use Rattle.pb_version.specs.Version.{TableView, VersionView, all_tables, flattened, size_of}
 use Rattle.pb_version.specs.Edited.{all_placed}
@@ -19,13 +21,11 @@ use Rattle.pb_version.proofs.Pairs.{pairs_filter}
 use Rattle.pb_version.proofs.Commute.{Differ, AllDiffer, sorted_all_placed}
 use Rattle.pb_version.proofs.KeptFacts.{backings_chain, ascending_differ, none_differ, size_shown}
 use Rattle.pb_version.proofs.SnapshotSpelling.{ascends}
+use Rattle.pb_version.proofs.Snapshots.{chosen as virtual_chosen, other_chosen}
 use Rattle.pb_excise.specs.Excised.{parts_of, parts_count, numbered_parts, left_of, excised_tables, excised_levels, is_carved, carved}
 use Rattle.pb_excise.specs.Planned.{is_cut, are_some, leaves_a_part, all_created}
 use Rattle.pb_excise.proofs.SameLists.{In, found, any_of, all_of, all_from, pair_of, of_filter, into_filter, of_map, into_map, same_backing, same_backing_itself, is_same_backing, same_backings}
-use Rattle.pb_excise.proofs.Drafts.{or_false, parts_show}
-
-equal_itself : (n : ℕ) → (n == n) ≡ true
-equal_itself n = grind (arith, nat_tests)
+use Rattle.pb_excise.proofs.Drafts.{parts_show}
 
 -- ---- sizes in a list that ascends
 
@@ -41,7 +41,7 @@ size_found c (x ∷ xs) e has =
       | true ↦ λ same _.
           let is : c ≡ x = is_same_backing c x same in
           ap (λ (w : CreatedItem). size_of (x ∷ xs) w.number) is
-          ∙ ap (λ b. cond b (Some x.size) (size_of xs x.number)) (equal_itself x.number)
+          ∙ ap (λ b. cond b (Some x.size) (size_of xs x.number)) (eq-eqb x.number x.number refl)
           ∙ ap (λ (w : CreatedItem). Some w.size) (sym is)
       | false ↦ λ _ later.
           let it = found (same_backing c) xs later in
@@ -88,37 +88,19 @@ none_behind : {X : Type 0} (P : X → X → Type 0) (xs : List X) → AllByRecur
 none_behind P [] = tt
 none_behind P (x ∷ xs) = (tt, none_behind P xs)
 
-formed_plain : (v a b : Bool) → v ≡ false → cond v a b ≡ true → b ≡ true
-formed_plain true a b e k = cc
-formed_plain false a b e k = k
-
-formed_virtual : (v a b : Bool) → v ≡ true → cond v a b ≡ true → a ≡ true
-formed_virtual true a b e k = k
-formed_virtual false a b e k = cc
-
 backed_virtual : (v h : Bool) → v ≡ true → (not v || h) ≡ true → h ≡ true
 backed_virtual true h e k = k
 backed_virtual false h e k = cc
 
-first_not : (v s : Bool) → (not v && s) ≡ true → v ≡ false
-first_not true s e = sym e
-first_not false s e = refl
-
 second_not : (o v : Bool) → (o && not v) ≡ true → v ≡ false
-second_not o v e = first_not v o (and_turned (not v) o ∙ e)
-  where
-    and_turned : (a b : Bool) → (a && b) ≡ (b && a)
-    and_turned true true = refl
-    and_turned true false = refl
-    and_turned false true = refl
-    and_turned false false = refl
+second_not o v e = not-true v (right o (not v) e)
 
 module _ (v : VersionView) (is : IsVersion v) where
   abbrev ts : List TableView
   ts = all_tables v
 
   pub plain_backing : (t : TableView) → In ts t → t.is_virtual ≡ false → is_plain t ≡ true
-  plain_backing t has e = formed_plain t.is_virtual (unwrap_or (size_of v.backings t.backing) 0 == t.size) (t.backing == t.number) e
+  plain_backing t has e = other_chosen t.is_virtual (unwrap_or (size_of v.backings t.backing) 0 == t.size) (t.backing == t.number) e
       (all_of (is_formed v.backings) ts t is.formed has)
 
   -- a physical table's number is no backing's
@@ -158,7 +140,7 @@ module _ (v : VersionView) (is : IsVersion v) where
 
   module _ (cut : KeySpan) where
     pub leaves_no_virtual : (t : TableView) → leaves_a_part cut t ≡ true → t.is_virtual ≡ false
-    leaves_no_virtual t e = first_not t.is_virtual (are_some (parts_of cut t)) e
+    leaves_no_virtual t e = not-true t.is_virtual (left (not t.is_virtual) (are_some (parts_of cut t)) e)
 
     carved_no_virtual : (t : TableView) → is_carved cut t ≡ true → t.is_virtual ≡ false
     carved_no_virtual t e = second_not (overlap t.view.bounds cut) t.is_virtual e
@@ -211,7 +193,7 @@ module _ (v : VersionView) (is : IsVersion v) where
               ap (λ o. unwrap_or o 0) (size_shown created_below created v.backings t.backing
               (not_created t.backing (virtual_backed t has e)))
               ∙ same_number (unwrap_or (size_of v.backings t.backing) 0) t.size
-              (formed_virtual t.is_virtual (unwrap_or (size_of v.backings t.backing) 0 == t.size) (t.backing == t.number) e
+              (virtual_chosen t.is_virtual (unwrap_or (size_of v.backings t.backing) 0 == t.size) (t.backing == t.number) e
               (all_of (is_formed v.backings) ts t is.formed has))
           | false ↦ λ e.
               let leaves : leaves_a_part cut t ≡ true = λ i. not (e i) && some i in
@@ -269,7 +251,7 @@ module _ (v : VersionView) (is : IsVersion v) where
     left_is_shown t has leaves =
         any_of (shows_after t.backing) ts t has
         (λ i. some_left (is_cut cut t) (remains t.view.bounds cut) t.is_virtual
-        (second_of (not t.is_virtual) (are_some (parts_of cut t)) leaves) i && equal_itself t.backing i)
+        (second_of (not t.is_virtual) (are_some (parts_of cut t)) leaves) i && eq-eqb t.backing t.backing refl i)
       where
         second_of : (a b : Bool) → (a && b) ≡ true → b ≡ true
         second_of true b e = e
@@ -312,9 +294,9 @@ module _ (v : VersionView) (is : IsVersion v) where
             sym (ap (leaves_a_part cut) same)
             ∙ (λ i. not (physical i) && cut_and_left (is_cut cut u) (remains u.view.bounds cut) u.is_virtual physical left_u i)
         one_table u t number physical left_u (inr (inl other)) = let bad : not true ≡ true = sym (ap (λ n. not (t.number == n)) number
-            ∙ ap not (equal_itself t.number)) ∙ other in cc
+            ∙ ap not (eq-eqb t.number t.number refl)) ∙ other in cc
         one_table u t number physical left_u (inr (inr other)) = let bad : not true ≡ true = sym (ap (λ n. not (n == t.number)) number
-            ∙ ap not (equal_itself t.number)) ∙ other in cc
+            ∙ ap not (eq-eqb t.number t.number refl)) ∙ other in cc
 
     -- ---- the backings afterwards
 
@@ -370,7 +352,7 @@ module _ (v : VersionView) (is : IsVersion v) where
     has_number_of c e =
         let it = found (same_backing c) v.backings e in
         any_of (λ (b : CreatedItem). b.number == c.number) v.backings it.item it.is_in
-        (ap (λ (b : CreatedItem). it.item.number == b.number) (is_same_backing c it.item it.passes) ∙ equal_itself it.item.number)
+        (ap (λ (b : CreatedItem). it.item.number == b.number) (is_same_backing c it.item it.passes) ∙ eq-eqb it.item.number it.item.number refl)
 
     -- the physical table of a backing that was chosen
     record Physical (q : TableView → Bool) (c : CreatedItem) : Type 0 where

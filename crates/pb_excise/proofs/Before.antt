@@ -3,13 +3,13 @@ use Rattle.std.proofs.Common.{◌≡◌, ℕ, List, Bool, true, false, cond, ref
 use Rattle.std.proofs.lemmas.Bool.Decides.{nat_tests}
 use Rattle.std.specs.Prelude.{not, ◌&&◌, ◌||◌, ◌==◌, nat_lt}
 use Rattle.pb_keys.specs.Order.{is_below, is_upto}
-use Rattle.pb_keys.specs.Span.{overlap, is_end}
+use Rattle.pb_keys.specs.Span.{overlap}
 use Rattle.pb_keys.proofs.OrderFacts.{below_itself, below_one_way, below_chain, below_upto}
 use Rattle.pb_version.specs.Version.{TableView}
 use Rattle.pb_version.specs.Edited.{comes_before}
 use Rattle.pb_version.specs.Rules.{are_apart, is_plain_view}
 use Rattle.pb_version.proofs.Lists.{left, right}
-use Rattle.pb_version.proofs.Kept.{view_span}
+use Rattle.pb_version.proofs.Kept.{rises, apart_bool}
 use Rattle.pb_version.specs.Above.{lies_within}
 
 -- what stands in the place of a table: of its rank, and within its bounds, which are no empty span
@@ -61,9 +61,6 @@ rank_or_start m n true false e f =
       | false ↦ λ s. grind (arith, nat_tests)
     ] refl
 
-apart_of : (m n : ℕ) (o : Bool) → (not (m == n) || not o) ≡ true → (m == n) ≡ true → not o ≡ true
-apart_of m n o e s = sym (ap (λ b. not b || not o) s) ∙ e
-
 -- what stands for t comes before what stands for u, where t came before u
 pub part_before : (level : ℕ) (t u p q : TableView) → StandsFor t p → StandsFor u q → is_below u.view.bounds.lo u.view.bounds.hi ≡ true →
     comes_before level t u ≡ true → are_apart level t u ≡ true → comes_before level p q ≡ true
@@ -78,7 +75,7 @@ part_before level t u p q is_p is_q up =
       | true ↦ λ e apart.
           (λ i. nat_lt (is_q.rank i) (is_p.rank i) || ((is_q.rank i) == (is_p.rank i) && then_starts))
           ∙ rank_or_start t.rank u.rank starts then_starts e
-          (λ same first. parts_first t u p q is_p is_q up first (apart_of t.rank u.rank meets apart same))
+          (λ same first. parts_first t u p q is_p is_q up first (apart_bool t.rank u.rank meets apart same))
       | false ↦ λ e apart. parts_first t u p q is_p is_q up e apart
     ]
 
@@ -115,9 +112,6 @@ starts_before level p q rank first =
     ]
 
 -- ---- the parts of a table
-
-pub rises : (t : TableView) → is_plain_view t.view ≡ true → is_below t.view.bounds.lo t.view.bounds.hi ≡ true
-rises t e = right (is_end t.view.bounds.lo && is_end t.view.bounds.hi) (is_below t.view.bounds.lo t.view.bounds.hi) (view_span t e)
 
 upto_itself : (a : List ℕ) → is_upto a a ≡ true
 upto_itself a = ap not (below_itself a)

@@ -3,8 +3,10 @@ use Rattle.std.proofs.Common.{◌≡◌, ℕ, ◌+◌, List, [], ◌∷◌, ◌+
 use Rattle.std.proofs.lemmas.List.{append-nil, map-append}
 use Rattle.std.specs.Prelude.{not, ◌&&◌, ◌||◌, nat_lt, map}
 use Rattle.std.specs.List.{filter, list_any}
+use Rattle.std.proofs.lemmas.List.Elements.{filter-append}
 use Rattle.pb_edit.specs.Edit.{DeletedItem, VirtualItem, CreatedItem}
 use Rattle.pb_keys.specs.Span.{KeySpan, overlap}
+use Rattle.pb_keys.proofs.Tests.{or_false}
 use Rattle.pb_span_cases.specs.Remainder.{remains}
 use Rattle.pb_version.specs.Version.{TableView, flattened}
 use Rattle.pb_version.specs.Edited.{each_level}
@@ -61,10 +63,6 @@ any_shows ts p = list_any (λ t. t.is_virtual && p t.backing) ts
 
 abbrev pub any_is_unsure : KeySpan → List TableView → (ℕ → Bool) → Bool
 any_is_unsure cut ts p = list_any (λ t. is_cut cut t && (t.is_virtual && p t.backing)) ts
-
-pub or_false : (b : Bool) → (b || false) ≡ b
-or_false true = refl
-or_false false = refl
 
 -- a backing goes into a set where the table is virtual
 put_where : (v : Bool) (p : ℕ → Bool) (ks : List ℕ) (more : List ℕ) (k : ℕ) → list_any p more ≡ (p k || list_any p ks) →
@@ -247,18 +245,10 @@ pub parts_count-append : (cut : KeySpan) (ts us : List TableView) → parts_coun
 parts_count-append cut [] us = omega arith
 parts_count-append cut (t ∷ ts) us = omega (arith, parts_count-append cut ts us)
 
-pub filter_append : {X : Type 0} (p : X → Bool) (xs ys : List X) → filter p (xs ++ ys) ≡ filter p xs ++ filter p ys
-filter_append p [] ys = refl
-filter_append p (x ∷ xs) ys =
-    elim (p x) as (λ b. cond b (x ∷ filter p (xs ++ ys)) (filter p (xs ++ ys)) ≡ cond b (x ∷ filter p xs) (filter p xs) ++ filter p ys) [
-      | true ↦ ap (λ zs. x ∷ zs) (filter_append p xs ys)
-      | false ↦ filter_append p xs ys
-    ]
-
 created_both : (cut : KeySpan) (ts us : List TableView) →
     map backing_of (filter (leaves_a_part cut) (ts ++ us)) ≡ map backing_of (filter (leaves_a_part cut) ts) ++ map backing_of
     (filter (leaves_a_part cut) us)
-created_both cut ts us = ap (map backing_of) (filter_append (leaves_a_part cut) ts us)
+created_both cut ts us = ap (map backing_of) (filter-append (leaves_a_part cut) ts us)
     ∙ map-append backing_of (filter (leaves_a_part cut) ts) (filter (leaves_a_part cut) us)
 
 pub levels_add : (cut : KeySpan) (level : ℕ) (ls : List (List TableView)) (d : DraftView) →

@@ -1,29 +1,28 @@
 -- The edit of an excise takes from each level the tables that are cut, and adds their parts there.
-use Rattle.std.proofs.Common.{◌≡◌, ℕ, ◌+◌, ◌<◌, List, [], ◌∷◌, ◌++◌, Bool, true, false, cond, length, refl, ap, sym, ◌∙◌, arith, inl, inr}
+use Rattle.std.proofs.Common.{◌≡◌, ℕ, ◌+◌, ◌<◌, List, [], ◌∷◌, ◌++◌, Bool, true, false, length, refl, ap, sym, ◌∙◌, arith, inl, inr}
 use Rattle.std.proofs.lemmas.Bool.Decides.{nat_tests}
 use Rattle.std.proofs.lemmas.List.{append-nil, map-append}
 use Rattle.std.specs.Prelude.{◌⊎◌, not, ◌&&◌, ◌||◌, ◌==◌, nat_lt, map}
 use Rattle.std.specs.List.{filter, list_any, list_all}
 use Rattle.std.specs.Option.{unwrap_or}
+use Rattle.std.proofs.lemmas.List.Elements.{filter-append}
+use Rattle.std.proofs.lemmas.Bool.{eq-eqb}
 use Rattle.pb_edit.specs.Edit.{DeletedItem, VirtualItem, CreatedItem}
 use Rattle.pb_keys.specs.Span.{KeySpan}
-use Rattle.pb_keys.proofs.Tests.{same_tests}
+use Rattle.pb_keys.proofs.Tests.{same_tests, or_false}
 use Rattle.pb_version.specs.Version.{TableView, flattened, size_of}
 use Rattle.pb_version.specs.Edited.{each_level, virtual_table}
 use Rattle.pb_version.specs.Rules.{each_pair, has_number}
 use Rattle.pb_version.specs.Snapshot.{virtual_item}
 use Rattle.pb_version.specs.State.{other_number}
-use Rattle.pb_version.proofs.Lists.{left, right, filter_all}
+use Rattle.pb_version.proofs.Lists.{filter_all}
 use Rattle.pb_version.proofs.Levels.{flattened_cons, any_append}
-use Rattle.pb_version.proofs.Pairs.{weaker}
+use Rattle.pb_version.proofs.Pairs.{weaker, lower_differs}
 use Rattle.pb_version.proofs.SnapshotSpelling.{levels_above}
+use Rattle.pb_version.proofs.SnapshotRules.{filter_none}
 use Rattle.pb_excise.specs.Excised.{parts_of, part_table, numbered_parts}
 use Rattle.pb_excise.specs.Planned.{is_cut, deleted_item, deleted_items, parts_from, part_items, are_some}
 use Rattle.pb_excise.proofs.SameLists.{In, found, any_of, pair_of, of_filter, into_filter}
-use Rattle.pb_excise.proofs.Drafts.{or_false, filter_append}
-
-equal_itself : (n : ℕ) → (n == n) ≡ true
-equal_itself n = grind (arith, nat_tests)
 
 equal_turned : (m n : ℕ) → (m == n) ≡ true → (n == m) ≡ true
 equal_turned m n e = grind (arith, nat_tests)
@@ -41,7 +40,7 @@ is_of level number d = d.level == level && d.number == number
 
 items_here : (level number : ℕ) (ts : List TableView) → list_any (is_of level number) (map (deleted_item level) ts) ≡ has_number ts number
 items_here level number [] = refl
-items_here level number (t ∷ ts) = λ i. (equal_itself level i && t.number == number) || items_here level number ts i
+items_here level number (t ∷ ts) = λ i. (eq-eqb level level refl i && t.number == number) || items_here level number ts i
 
 items_elsewhere : (level other number : ℕ) (ts : List TableView) → (level == other) ≡ false →
     list_any (is_of other number) (map (deleted_item level) ts) ≡ false
@@ -89,7 +88,7 @@ module _ (cut : KeySpan) where
       let both = of_filter (is_cut cut) ts it.item it.is_in in
       one_of it.item it.passes both.passes (pair_of other_number ts it.item t numbered both.is_in has))
       (λ e. any_of (λ (u : TableView). u.number == t.number) (filter (is_cut cut) ts) t (into_filter (is_cut cut) ts t has e)
-      (equal_itself t.number))
+      (eq-eqb t.number t.number refl))
     where
       one_of : (u : TableView) → (u.number == t.number) ≡ true → is_cut cut u ≡ true →
           (u ≡ t) ⊎ ((other_number u t ≡ true) ⊎ (other_number t u ≡ true)) → is_cut cut t ≡ true
@@ -101,18 +100,7 @@ module _ (cut : KeySpan) where
 
 pub on_level : (level : ℕ) (ps : List TableView) → list_all (λ (v : VirtualItem). v.level == level) (part_items level ps) ≡ true
 on_level level [] = refl
-on_level level (p ∷ ps) = λ i. equal_itself level i && on_level level ps i
-
-filter_none : {X : Type 0} (p : X → Bool) (xs : List X) → list_all (λ x. not (p x)) xs ≡ true → filter p xs ≡ []
-filter_none p [] e = refl
-filter_none p (x ∷ xs) e =
-    elim (p x) as (λ b. not b ≡ true → cond b (x ∷ filter p xs) (filter p xs) ≡ []) [
-      | true ↦ λ bad. cc
-      | false ↦ λ _. filter_none p xs (right (not (p x)) (list_all (λ y. not (p y)) xs) e)
-    ] (left (not (p x)) (list_all (λ y. not (p y)) xs) e)
-
-not_here : (k n : ℕ) → nat_lt k n ≡ true → not (n == k) ≡ true
-not_here k n e = grind (arith, nat_tests)
+on_level level (p ∷ ps) = λ i. eq-eqb level level refl i && on_level level ps i
 
 not_later : (k l n : ℕ) → k < l → (n == k) ≡ true → not (n == l) ≡ true
 not_later k l n h e = grind (arith, nat_tests)
@@ -127,14 +115,14 @@ on_both : (k level : ℕ) (ps : List TableView) (pss : List (List TableView)) �
     on level (items_of k (ps ∷ pss)) ≡ on level (part_items k ps) ++ on level (items_of (k + 1) pss)
 on_both k level ps pss =
     ap (on level) (flattened_cons (part_items k ps) (each_level part_items (k + 1) pss))
-    ∙ filter_append (λ v. v.level == level) (part_items k ps) (items_of (k + 1) pss)
+    ∙ filter-append (λ v. v.level == level) (part_items k ps) (items_of (k + 1) pss)
 
 pub items_on_level : (k : ℕ) (ps : List TableView) (pss : List (List TableView)) → on k (items_of k (ps ∷ pss)) ≡ part_items k ps
 items_on_level k ps pss =
     on_both k k ps pss
     ∙ (λ i. filter_all (λ v. v.level == k) (part_items k ps) (on_level k ps) i
     ++ filter_none (λ v. v.level == k) (items_of (k + 1) pss)
-    (weaker (λ v. nat_lt k v.level) (λ v. not (v.level == k)) (λ v e. not_here k v.level e) (items_of (k + 1) pss)
+    (weaker (λ v. nat_lt k v.level) (λ v. not (v.level == k)) (λ v e. lower_differs k v.level e) (items_of (k + 1) pss)
     (levels_above (λ (v : VirtualItem). v.level) part_items on_level k (k + 1) pss (omega arith))) i)
     ∙ append-nil (part_items k ps)
 

@@ -2,10 +2,11 @@
 use Rattle.std.proofs.Common.{◌≡◌, ℕ, ◌+◌, ◌<◌, ◌≤◌, ◌^◌, List, [], ◌∷◌, ◌++◌, Bool, true, false, cond, length, refl, ap, sym, ◌∙◌, subst, arith, inl, inr}
 use Rattle.std.proofs.lemmas.Bool.Decides.{nat_tests}
 use Rattle.std.proofs.lemmas.List.{map-append}
-use Rattle.std.proofs.lemmas.List.Elements.{All-head, All-tail}
+use Rattle.std.proofs.lemmas.List.Elements.{All-head, All-tail, filter-append}
 use Rattle.std.proofs.lemmas.List.Folds.{list_all-append, list_all-map}
 use Rattle.std.specs.Prelude.{not, ◌&&◌, ◌||◌, ◌==◌, nat_lt, nat_le, map, All}
 use Rattle.std.specs.List.{filter, list_all, AllByRecursion}
+use Rattle.std.proofs.lemmas.Bool.{le-leb}
 use Rattle.pb_bytes.specs.Number.{IsNumber}
 use Rattle.pb_edit.specs.Edit.{DeletedItem, VirtualItem, CreatedItem}
 use Rattle.pb_edit.specs.Grammar.{IsField, IsDeleted, IsVirtual, IsCreated, IsEdit, deleted_below, virtual_below, created_below, edit_spelling}
@@ -26,11 +27,11 @@ use Rattle.pb_version.proofs.Kept.{view_span}
 use Rattle.pb_version.proofs.Pairs.{weaker, pairs_filter}
 use Rattle.pb_version.proofs.Commute.{Differ, AllDiffer, IsTransitive, each_all_placed, sorted_all_placed}
 use Rattle.pb_version.proofs.Ruled.{of_backing}
-use Rattle.pb_version.proofs.SnapshotSpelling.{ascends, chain_place, each_append, levels_above}
+use Rattle.pb_version.proofs.SnapshotSpelling.{ascends, chain_place, each_append, levels_above, no_field, lower_number, lower_place, pairs_append}
 use Rattle.pb_excise.specs.Excised.{parts_of, part_table, numbered_parts, parts_count, excised}
 use Rattle.pb_excise.specs.Planned.{is_cut, deleted_item, deleted_items, all_deleted, parts_from, parts_of_levels, part_items, all_parts, leaves_a_part, all_created, all_removed, excise_edit, with_count}
 use Rattle.pb_excise.proofs.SameLists.{In, all_of, of_filter, of_map, in_first, in_second}
-use Rattle.pb_excise.proofs.Drafts.{parts_count-append, filter_append}
+use Rattle.pb_excise.proofs.Drafts.{parts_count-append}
 use Rattle.pb_excise.proofs.Gone.{deleted_from, items_of, on_level}
 use Rattle.pb_excise.proofs.Backings.{created, created_sorted, virtual_backed, plain_backing}
 
@@ -49,28 +50,13 @@ pairs_map : {X Y : Type 0} (r : Y → Y → Bool) (f : X → Y) (xs : List X) �
 pairs_map r f [] = refl
 pairs_map r f (x ∷ xs) = λ i. list_all-map (r (f x)) f xs i && pairs_map r f xs i
 
-pairs_join : {X : Type 0} (r : X → X → Bool) (xs ys : List X) → each_pair r xs ≡ true → each_pair r ys ≡ true →
-    list_all (λ x. list_all (r x) ys) xs ≡ true → each_pair r (xs ++ ys) ≡ true
-pairs_join r [] ys e d c = d
-pairs_join r (x ∷ xs) ys e d c = λ i.
-    (list_all-append (r x) xs ys ∙ (λ j. left (list_all (r x) xs) (each_pair r xs) e j && left (list_all (r x) ys)
-    (list_all (λ y. list_all (r y) ys) xs) c j)) i
-    && pairs_join r xs ys (right (list_all (r x) xs) (each_pair r xs) e) d
-    (right (list_all (r x) ys) (list_all (λ y. list_all (r y) ys) xs) c) i
-
 -- ---- numbers and fields
 
 is_lower : (m n : ℕ) → nat_lt m n ≡ true → m < n
 is_lower m n e = grind (arith, nat_tests)
 
-lower_number : (m n : ℕ) → nat_lt m n ≡ true → IsNumber n → IsNumber m
-lower_number m n e h = omega (arith, is_lower m n e)
-
 end_field : (bytes : List ℕ) → IsEnd bytes → IsField bytes
 end_field bytes is = let within : length bytes ≤ 1025 = is.within in omega arith
-
-no_field : (bytes : List ℕ) → (length bytes == 0) ≡ true → IsField bytes
-no_field bytes e = omega (arith, same_number (length bytes) 0 e)
 
 -- ---- what goes
 
@@ -134,7 +120,7 @@ module _ (v : VersionView) (is : IsVersion v) where
         ∙ map-append (λ (d : DeletedItem). d.number) (deleted_items cut k ts) (deleted_from cut (k + 1) ls)
         ∙ (λ i. items_numbers k (filter (is_cut cut) ts) i ++ deleted_numbers (k + 1) ls i)
         ∙ sym (ap (λ us. map (λ (t : TableView). t.number) (filter (is_cut cut) us)) (flattened_cons ts ls)
-        ∙ ap (map (λ (t : TableView). t.number)) (filter_append (is_cut cut) ts (flattened ls))
+        ∙ ap (map (λ (t : TableView). t.number)) (filter-append (is_cut cut) ts (flattened ls))
         ∙ map-append (λ (t : TableView). t.number) (filter (is_cut cut) ts) (filter (is_cut cut) (flattened ls)))
 
     abbrev other_item : DeletedItem → DeletedItem → Bool
@@ -259,14 +245,8 @@ upto_next m n e = grind (arith, nat_tests)
 upto_more : (m n k : ℕ) → m ≤ n → nat_le n k ≡ true → nat_le m k ≡ true
 upto_more m n k h e = grind (arith, nat_tests)
 
-low_enough : (m n : ℕ) → m ≤ n → nat_le m n ≡ true
-low_enough m n h = grind (arith, nat_tests)
-
 place_rises : (k m n : ℕ) → nat_lt m n ≡ true → (nat_lt k k || (k == k && nat_lt m n)) ≡ true
 place_rises k m n e = grind (arith, nat_tests)
-
-lower_place : (k l m n : ℕ) → nat_lt k l ≡ true → (nat_lt k l || (k == l && nat_lt m n)) ≡ true
-lower_place k l m n e = ap (λ b. b || (k == l && nat_lt m n)) e
 
 abbrev from : ℕ → TableView → Bool
 from n p = nat_le n p.number
@@ -276,7 +256,7 @@ rise p q = nat_lt p.number q.number
 
 numbered_from : (t : TableView) (m n : ℕ) (parts : List KeySpan) → m ≤ n → list_all (from m) (numbered_parts t n parts) ≡ true
 numbered_from t m n [] h = refl
-numbered_from t m n (part ∷ parts) h = λ i. low_enough m n h i && numbered_from t m (n + 1) parts (omega arith) i
+numbered_from t m n (part ∷ parts) h = λ i. le-leb m n h i && numbered_from t m (n + 1) parts (omega arith) i
 
 parts_are_from : (cut : KeySpan) (m n : ℕ) (ts : List TableView) → m ≤ n → list_all (from m) (parts_from cut n ts) ≡ true
 parts_are_from cut m n [] h = refl
@@ -325,7 +305,7 @@ levels_rise cut k n (ts ∷ ls) =
     let deeper = items_of (k + 1) (parts_of_levels cut m ls) in
     ap (each_pair virtual_below) (flattened_cons (part_items k (parts_from cut n ts))
     (each_level part_items (k + 1) (parts_of_levels cut m ls)))
-    ∙ pairs_join virtual_below (part_items k (parts_from cut n ts)) deeper
+    ∙ pairs_append virtual_below (part_items k (parts_from cut n ts)) deeper
     (items_rise k (parts_from cut n ts) (parts_rise cut n ts))
     (levels_rise cut (k + 1) m ls)
     (weaker (λ x. x.level == k) (λ x. list_all (virtual_below x) deeper)

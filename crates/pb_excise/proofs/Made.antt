@@ -1,37 +1,26 @@
 -- The edit of an excise makes of a version what the excise leaves.
-use Rattle.std.proofs.Common.{◌≡◌, ℕ, ◌+◌, ◌≤◌, List, [], ◌∷◌, ◌++◌, Bool, true, false, cond, refl, ap, sym, ◌∙◌, subst, arith}
-use Rattle.std.proofs.lemmas.List.Folds.{list_all-append}
+use Rattle.std.proofs.Common.{◌≡◌, ℕ, ◌+◌, ◌≤◌, List, [], ◌∷◌, Bool, true, false, cond, refl, ap, sym, ◌∙◌, subst, arith}
 use Rattle.std.specs.Prelude.{not, ◌&&◌, ◌||◌, ◌==◌, map}
 use Rattle.std.specs.List.{filter, list_any, list_all}
 use Rattle.pb_edit.specs.Edit.{CreatedItem, VersionEdit}
 use Rattle.pb_edit.specs.Grammar.{deleted_below, created_below}
 use Rattle.pb_keys.specs.Span.{KeySpan, IsSpan}
+use Rattle.pb_keys.proofs.Tests.{or_false}
 use Rattle.pb_version.specs.Version.{TableView, VersionView, version_of, all_tables, flattened}
 use Rattle.pb_version.specs.Edited.{all_placed, comes_before, each_level, level_after, staying, is_removed, backings_after, virtual_table, edited}
 use Rattle.pb_version.specs.Rules.{each_pair, are_all_apart, has_backing, has_virtual, is_plain_view}
 use Rattle.pb_version.specs.State.{IsVersion, other_number}
 use Rattle.pb_version.proofs.Lists.{left, right, same_number, list_any_all_placed}
 use Rattle.pb_version.proofs.Levels.{flattened_cons, list_all_flattened}
+use Rattle.pb_version.proofs.SnapshotSpelling.{pairs_front, pairs_back}
 use Rattle.pb_excise.specs.Excised.{parts_count, excised_tables, excised_levels, carved, excised}
 use Rattle.pb_excise.specs.Planned.{is_cut, all_deleted, parts_from, parts_of_levels, excise_edit, with_count, at_count}
 use Rattle.pb_excise.proofs.SameLists.{In, filter_same, in_first, in_second}
-use Rattle.pb_excise.proofs.Drafts.{or_false}
 use Rattle.pb_excise.proofs.Placed.{placed_whole}
 use Rattle.pb_excise.proofs.Gone.{is_of, deleted_from, deleted_here, deleted_later, cut_numbers, items_of, on, items_on_level, items_on_later, items_made}
 use Rattle.pb_excise.proofs.Backings.{shown, part_size, levels_shown, goes, backings_left}
 
 -- ---- pairs of a list that was joined
-
-pub pairs_front : {X : Type 0} (r : X → X → Bool) (xs ys : List X) → each_pair r (xs ++ ys) ≡ true → each_pair r xs ≡ true
-pairs_front r [] ys e = refl
-pairs_front r (x ∷ xs) ys e = λ i.
-    left (list_all (r x) xs) (list_all (r x) ys) (sym (list_all-append (r x) xs ys)
-    ∙ left (list_all (r x) (xs ++ ys)) (each_pair r (xs ++ ys)) e) i
-    && pairs_front r xs ys (right (list_all (r x) (xs ++ ys)) (each_pair r (xs ++ ys)) e) i
-
-pub pairs_back : {X : Type 0} (r : X → X → Bool) (xs ys : List X) → each_pair r (xs ++ ys) ≡ true → each_pair r ys ≡ true
-pairs_back r [] ys e = e
-pairs_back r (x ∷ xs) ys e = pairs_back r xs ys (right (list_all (r x) (xs ++ ys)) (each_pair r (xs ++ ys)) e)
 
 -- ---- the numbers that the edit removes
 

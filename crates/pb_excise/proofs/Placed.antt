@@ -17,12 +17,12 @@ use Rattle.pb_version.specs.Rules.{each_pair, are_apart, is_plain_view}
 use Rattle.pb_version.proofs.Lists.{left, right}
 use Rattle.pb_version.proofs.Pairs.{weaker}
 use Rattle.pb_version.proofs.Commute.{all_placed_append, first_placed}
-use Rattle.pb_version.proofs.Kept.{view_span}
+use Rattle.pb_version.proofs.Kept.{view_span, rises}
 use Rattle.pb_excise.specs.Excised.{parts_of, part_table, numbered_parts, left_of, excised_tables}
 use Rattle.pb_version.specs.Above.{lies_within}
 use Rattle.pb_excise.specs.Planned.{is_cut, parts_from}
 use Rattle.pb_excise.proofs.Above.{remains_within}
-use Rattle.pb_excise.proofs.Before.{StandsFor, part_before, before_one_way, starts_before, rises, stands_itself}
+use Rattle.pb_excise.proofs.Before.{StandsFor, part_before, before_one_way, starts_before, stands_itself}
 
 -- ---- placing in front of a list, and behind an element
 

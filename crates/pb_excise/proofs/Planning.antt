@@ -6,30 +6,27 @@ use Rattle.std.specs.List.{filter, list_any}
 use Rattle.pb_edit.specs.Edit.{VersionEdit}
 use Rattle.pb_edit.specs.Grammar.{IsEdit, deleted_below, created_below}
 use Rattle.pb_keys.specs.Span.{KeySpan, IsSpan}
-use Rattle.pb_keys.proofs.Tests.{same_tests}
+use Rattle.pb_keys.proofs.Tests.{same_tests, or_false}
 use Rattle.pb_span_cases.specs.Remainder.{remains}
 use Rattle.pb_version.specs.Version.{TableView, VersionView, all_tables, flattened}
 use Rattle.pb_version.specs.Edited.{all_placed, edited}
 use Rattle.pb_version.specs.Rules.{has_backing, has_virtual}
 use Rattle.pb_version.specs.State.{IsVersion}
 use Rattle.pb_version.proofs.Lists.{left, right, same_number}
-use Rattle.pb_version.proofs.Pairs.{pairs_filter}
+use Rattle.pb_version.proofs.Pairs.{pairs_filter, number_turned}
 use Rattle.pb_version.proofs.Counts.{count, count_all_placed}
 use Rattle.pb_excise.specs.Excised.{parts_count, excised_levels, excised}
 use Rattle.pb_excise.specs.Planned.{is_cut, are_some, all_deleted, all_created, all_removed, excise_edit, with_count, at_count, HasItems, IsExcise}
 use Rattle.pb_excise.specs.Drafted.{DraftView, begun, with_levels, is_unshown, deletions_rise, backings_rise, IsDrafted}
 use Rattle.pb_excise.proofs.SameLists.{found, any_of, all_of, pairs_weaker, count_permuted, same_numbers, same_deletion, same_deletions, same_backing, same_created, backing_rises, deletion_rises}
 use Rattle.pb_excise.proofs.Sets.{unshown_number}
-use Rattle.pb_excise.proofs.Drafts.{AddsLevels, any_shows, any_is_unsure, levels_add, or_false}
+use Rattle.pb_excise.proofs.Drafts.{AddsLevels, any_shows, any_is_unsure, levels_add}
 use Rattle.pb_excise.proofs.Backings.{created_sorted, virtual_backed, levels_shown, stays_shown, shows_after, goes}
 use Rattle.pb_excise.proofs.Made.{makes, removed_goes}
 use Rattle.pb_excise.proofs.InForm.{deleted_sorted, removed_sorted, in_form}
 
 equal_turned : (m n : ℕ) → (m == n) ≡ true → (n == m) ≡ true
 equal_turned m n e = grind (arith, nat_tests)
-
-number_turned : (m n : ℕ) → (m == n) ≡ (n == m)
-number_turned m n = same_tests (m == n) (n == m) (equal_turned m n) (equal_turned n m)
 
 -- a number in a filtered list
 number_filter : (q : ℕ → Bool) (n : ℕ) (xs : List ℕ) → list_any (λ m. n == m) (filter q xs) ≡ (list_any (λ m. n == m) xs && q n)

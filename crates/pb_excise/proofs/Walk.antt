@@ -2,7 +2,7 @@
 use Rattle.std.proofs.Common.{◌≡◌, ℕ, ◌+◌, ◌*◌, ◌<◌, ◌≤◌, ◌^◌, List, [], ◌∷◌, true, false, cond, length, get_or, drop, ap, sym, ◌∙◌, arith}
 use Rattle.std.proofs.lemmas.Bool.Decides.{nat_tests}
 use Rattle.std.proofs.lemmas.List.{drop_more, drop_all}
-use Rattle.std.specs.Prelude.{nat_lt, nat_le, slice_index_or}
+use Rattle.std.specs.Prelude.{nat_lt, nat_le}
 use Rattle.pb_keys.specs.Span.{KeySpan, overlap}
 use Rattle.pb_span_cases.specs.Remainder.{remains}
 use Rattle.pb_span_cases.proofs.RemainLaws.{remains_at_most_two}
@@ -18,10 +18,6 @@ use Rattle.pb_excise.specs.Drafted.{DraftView, with_level, with_levels}
 use Rattle.pb_excise.proofs.Drafts.{parts_count-append, level_adds, levels_add}
 
 -- the tables that were read stand first among those that are left
-pub level_first : (ls : List (List TableView)) (k : ℕ) (ts : List TableView) → k < length ls → ts ≡ slice_index_or ls k [] →
-    drop k ls ≡ ts ∷ drop (k + 1) ls
-level_first ls k ts within read = drop_more ls k [] within ∙ ap (λ us. us ∷ drop (k + 1) ls) (sym read)
-
 pub table_first : (ts : List TableView) (i : ℕ) (t : TableView) → i < length ts → t ≡ get_or ts i t → drop i ts ≡ t ∷ drop (i + 1) ts
 table_first ts i t within is = drop_more ts i t within ∙ ap (λ u. u ∷ drop (i + 1) ts) (sym is)
 

@@ -1,7 +1,8 @@
 use Rattle.std.proofs.Common.{◌≡◌, ◌+◌, ◌∷◌, drop, arith}
 use Rattle.pb_excise.specs.Drafted.{begun}
-use Rattle.pb_excise.proofs.Walk.{level_first, parts_left, room_in_levels}
+use Rattle.pb_excise.proofs.Walk.{parts_left, room_in_levels}
 use Rattle.pb_excise.proofs.planned.draft_of.Goals as goal
+use Rattle.pb_version.proofs.Levels.{level_first}
 
 pub add_tables-requires : goal.add_tables-requires
 add_tables-requires c =

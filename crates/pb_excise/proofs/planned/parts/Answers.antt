@@ -1,6 +1,7 @@
 use Rattle.std.proofs.Common.{◌≡◌, ◌+◌, ◌∷◌, drop, arith}
-use Rattle.pb_excise.proofs.Walk.{level_first, parts_of_version, parts_left}
+use Rattle.pb_excise.proofs.Walk.{parts_of_version, parts_left}
 use Rattle.pb_excise.proofs.planned.parts.Goals as goal
+use Rattle.pb_version.proofs.Levels.{level_first}
 
 pub parts_on-count-requires : goal.parts_on-count-requires
 parts_on-count-requires c =

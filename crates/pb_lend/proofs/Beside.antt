@@ -1,6 +1,5 @@
 -- What is lent lies within the span, so it is apart from all that stands beside the span.
 use Rattle.std.proofs.Common.{◌≡◌, ℕ, List, [], ◌∷◌, Bool, true, false, cond, refl, ap, sym, ◌∙◌, inl, inr}
-use Rattle.std.proofs.Math.Bool.{and_comm}
 use Rattle.std.proofs.lemmas.Bool.{and_parts, and_from, and_left, and_right}
 use Rattle.std.proofs.lemmas.List.Elements.{All-nil, All-cons, All-head, All-tail, All-append, All-contains, All-weaker}
 use Rattle.std.specs.Prelude.{◌⊎◌, not, ◌&&◌, ◌||◌, ◌==◌, map, All, Contains}
@@ -9,20 +8,18 @@ use Rattle.pb_keys.specs.Order.{is_below, lesser, greater}
 use Rattle.pb_keys.specs.Span.{KeySpan, span_of, overlap}
 use Rattle.pb_keys.proofs.EndFacts.{below-lesser}
 use Rattle.pb_keys.proofs.OrderFacts.{below_itself, below_chain, upto_below}
-use Rattle.pb_keys.proofs.SpanFacts.{overlap-ends}
+use Rattle.pb_keys.proofs.SpanFacts.{overlap-ends, overlap_turns}
 use Rattle.pb_keys.proofs.Tests.{both_below, both_below_first}
 use Rattle.pb_span_cases.specs.Remainder.{remains}
 use Rattle.pb_version.specs.Version.{TableView, VersionView, tables_of_level}
 use Rattle.pb_version.specs.Above.{IsNewest, IsClear, MayStand, AddsAbove}
 use Rattle.pb_version.specs.Rules.{are_apart, are_all_apart}
+use Rattle.pb_version.proofs.Pairs.{and_crossed}
 use Rattle.pb_lend.specs.Lent.{cut_view, cut_table, lent_of, lent_of_level}
 use Rattle.pb_lend.specs.Received.{StandsBeside, IsWithoutSpan, IsLentTo, AddsBundle}
 use Rattle.pb_lend.proofs.CutViews.{each_lent}
 
 -- ---- where spans overlap
-
-overlap_turns : (s t : KeySpan) → overlap s t ≡ overlap t s
-overlap_turns s t = overlap-ends s t ∙ and_comm (is_below s.lo t.hi) (is_below t.lo s.hi) ∙ sym (overlap-ends t s)
 
 pub greater-below : (a b c : List ℕ) → is_below (greater a b) c ≡ (is_below a c && is_below b c)
 greater-below a b c =
@@ -32,12 +29,6 @@ greater-below a b c =
     ] refl
 
 -- two and two, taken the other way
-across : (a b c d : Bool) → ((a && b) && (c && d)) ≡ ((a && c) && (b && d))
-across true true c d = refl
-across true false true d = refl
-across true false false d = refl
-across false b c d = refl
-
 -- what is cut overlaps what both overlap
 overlap-cut : (t : TableView) (span other : KeySpan) →
     overlap (cut_view t.view span).bounds other ≡ (overlap t.view.bounds other && overlap span other)
@@ -45,7 +36,7 @@ overlap-cut t span other =
     let whole = t.view.bounds in
     overlap-ends (cut_view t.view span).bounds other
     ∙ (λ i. greater-below whole.lo span.lo other.hi i && below-lesser other.lo whole.hi span.hi i)
-    ∙ across (is_below whole.lo other.hi) (is_below span.lo other.hi) (is_below other.lo whole.hi) (is_below other.lo span.hi)
+    ∙ and_crossed (is_below whole.lo other.hi) (is_below span.lo other.hi) (is_below other.lo whole.hi) (is_below other.lo span.hi)
     ∙ (λ i. sym (overlap-ends whole other) i && sym (overlap-ends span other) i)
 
 beside_cut : (t : TableView) (span other : KeySpan) → overlap span other ≡ false → overlap (cut_view t.view span).bounds other ≡ false

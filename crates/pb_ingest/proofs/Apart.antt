@@ -1,7 +1,6 @@
 -- Tables on top are apart from those under them, so an edit may add them.
-use Rattle.std.proofs.Common.{◌≡◌, ℕ, ◌+◌, List, [], ◌∷◌, Bool, true, false, cond, refl, ◌∙◌, subst, arith}
+use Rattle.std.proofs.Common.{◌≡◌, ℕ, ◌+◌, List, [], ◌∷◌, Bool, true, false, cond, refl, ◌∙◌, subst}
 use Rattle.std.proofs.lemmas.Bool.{eqb-true, and_parts, or_left, or_right}
-use Rattle.std.proofs.lemmas.Bool.Decides.{nat_tests}
 use Rattle.std.proofs.lemmas.List.Elements.{All-head, All-tail, All-weaker}
 use Rattle.std.proofs.lemmas.List.Folds.{list_all-map}
 use Rattle.std.specs.Prelude.{not, ◌==◌, ◌&&◌, ◌||◌, nat_lt, map, All}
@@ -13,7 +12,7 @@ use Rattle.pb_version.specs.Edited.{physical_table}
 use Rattle.pb_version.specs.Rules.{each_pair, are_apart, are_all_apart}
 use Rattle.pb_version.specs.Judged.{all_levels}
 use Rattle.pb_version.specs.Adding.{tables_for, level_may_add, is_under, level_is_under, bounds_apart}
-use Rattle.pb_version.proofs.Pairs.{pairs_filter, weaker}
+use Rattle.pb_version.proofs.Pairs.{pairs_filter, weaker, not_lower, lower_differs}
 
 under_gives : (s n z r d : Bool) → s ≡ false → (r ≡ true → d ≡ true) → ((s || n) || ((z && z) && r)) ≡ true → ((z && d) || n) ≡ true
 under_gives true n z r d f g e = cc
@@ -22,16 +21,10 @@ under_gives false false true true d f g e = or_left d false (g refl)
 under_gives false false true false d f g e = cc
 under_gives false false false r d f g e = cc
 
-not_below : (n : ℕ) → nat_lt n n ≡ false
-not_below n = grind (arith, nat_tests)
-
-lower_differs : (m n : ℕ) → nat_lt m n ≡ true → not (n == m) ≡ true
-lower_differs m n e = grind (arith, nat_tests)
-
 under_apart : (l : ℕ) (t u : TableView) → is_under l t l u ≡ true → are_apart l t u ≡ true
 under_apart l t u e =
     under_gives (nat_lt l l) (not (overlap t.view.bounds u.view.bounds)) (l == 0) (nat_lt u.rank t.rank) (not (t.rank == u.rank))
-    (not_below l) (lower_differs u.rank t.rank) e
+    (not_lower l) (lower_differs u.rank t.rank) e
 
 -- new tables of one level are apart, where no two of the items overlap
 each_apart_on : (l : ℕ) (p : PhysicalItem) (ps : List PhysicalItem) → list_all (bounds_apart p) ps ≡ true → list_all (are_apart l (physical_table p)) (map physical_table ps) ≡ true

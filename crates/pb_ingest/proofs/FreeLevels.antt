@@ -1,6 +1,5 @@
 -- Free levels: what no table of theirs overlaps, and how a loop counts them.
-use Rattle.std.proofs.Common.{◌≡◌, ℕ, ◌+◌, ◌<◌, ◌≤◌, zero, suc, List, [], ◌∷◌, Bool, true, false, cond, length, drop, refl, ap, sym, ◌∙◌, arith}
-use Rattle.std.proofs.lemmas.List.{drop_more}
+use Rattle.std.proofs.Common.{◌≡◌, ℕ, ◌+◌, ◌<◌, ◌≤◌, zero, suc, List, [], ◌∷◌, Bool, true, false, cond, length, refl, ap, ◌∙◌, arith}
 use Rattle.std.proofs.lemmas.List.Elements.{All-nil, All-cons, All-contains}
 use Rattle.std.proofs.lemmas.Bool.{and_parts, or_parts, not-true}
 use Rattle.std.specs.Prelude.{◌&&◌, ◌||◌, slice_index_or, Option, Some, All}
@@ -9,7 +8,7 @@ use Rattle.pb_keys.specs.Order.{is_below, is_upto, lesser, greater}
 use Rattle.pb_keys.specs.Span.{KeySpan, span_of, overlap}
 use Rattle.pb_keys.proofs.EndFacts.{below-lesser}
 use Rattle.pb_keys.proofs.OrderFacts.{upto_chain}
-use Rattle.pb_keys.proofs.SpanFacts.{upto_greater}
+use Rattle.pb_keys.proofs.SpanFacts.{upto_greater, overlap_turns}
 use Rattle.pb_span_cases.specs.Remainder.{remains}
 use Rattle.pb_version.specs.Version.{TableView, VersionView}
 use Rattle.pb_version.specs.Above.{lies_within}
@@ -23,16 +22,6 @@ none_pass q [] e = All-nil (λ x. q x ≡ false)
 none_pass q (x ∷ xs) e =
     let parts = or_parts (q x) (list_any q xs) e in
     All-cons (λ y. q y ≡ false) x xs parts.0 (none_pass q xs parts.1)
-
-both_turned : (a b : Bool) → (a && b) ≡ (b && a)
-both_turned true true = refl
-both_turned true false = refl
-both_turned false true = refl
-both_turned false false = refl
-
-pub overlap_turned : (s t : KeySpan) → overlap s t ≡ overlap t s
-unfolding overlap
-overlap_turned s t = both_turned (is_below s.lo t.hi) (is_below t.lo s.hi)
 
 -- ---- free levels
 
@@ -68,14 +57,10 @@ pub rest_apart : (cut : Option KeySpan) (hull : KeySpan) (tables : List TableVie
 rest_apart cut hull tables t none rest =
     let of_table = All-contains (λ u. meets cut hull u ≡ false) tables rest.table (none_pass (meets cut hull) tables none) rest.stood in
     let each = none_pass (λ s. overlap s hull) (rests_of cut rest.table.view.bounds) of_table in
-    overlap_turned hull t.view.bounds
+    overlap_turns hull t.view.bounds
     ∙ All-contains (λ s. overlap s hull ≡ false) (rests_of cut rest.table.view.bounds) t.view.bounds each rest.bounds
 
 -- ---- counting on
-
-pub level_first : (levels : List (List TableView)) (i : ℕ) (tables : List TableView) → i < length levels → tables ≡ slice_index_or levels i [] →
-    drop i levels ≡ tables ∷ drop (i + 1) levels
-level_first levels i tables within is = drop_more levels i [] within ∙ ap (λ ts. ts ∷ drop (i + 1) levels) (sym is)
 
 pub stops_here : (cut : Option KeySpan) (hull : KeySpan) (ts : List TableView) (ls : List (List TableView)) → list_any (meets cut hull) ts ≡ true →
     free_levels cut hull (ts ∷ ls) ≡ 0

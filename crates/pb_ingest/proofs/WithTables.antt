@@ -12,7 +12,7 @@ use Rattle.pb_version.specs.Judged.{seven, total}
 use Rattle.pb_version.specs.Adding.{tables_for, level_with, with_tables, is_unused}
 use Rattle.pb_version.proofs.Commute.{each_all_placed}
 use Rattle.pb_version.proofs.Counts.{count, length_count, count_map, count_flattened, count_levels, in_one_level}
-use Rattle.pb_version.proofs.Levels.{list_all_flattened, each_is_seven}
+use Rattle.pb_version.proofs.Levels.{list_all_flattened, each_is_seven, test_on}
 use Rattle.pb_version.proofs.Pairs.{not_any}
 
 -- ---- as many tables more
@@ -85,11 +85,6 @@ pub with_each : (P : TableView → Type 0) (v : VersionView) (ps : List Physical
 unfolding with_tables
 with_each P v ps level old new = levels_each P ps level 0 level (omega arith) v.levels old new
 
-level_test : (q : TableView → Bool) (ls : List (List TableView)) (level : ℕ) → list_all (λ ts. list_all q ts) ls ≡ true → list_all q (slice_index_or ls level []) ≡ true
-level_test q [] level e = refl
-level_test q (ts ∷ ls) zero e = (and_parts (list_all q ts) (list_all (λ us. list_all q us) ls) e).0
-level_test q (ts ∷ ls) (suc level) e = level_test q ls level (and_parts (list_all q ts) (list_all (λ us. list_all q us) ls) e).1
-
 pub passes_each : {X : Type 0} (q : X → Bool) (xs : List X) → list_all q xs ≡ true → All (λ x. q x ≡ true) xs
 passes_each q [] e = All-nil (λ x. q x ≡ true)
 passes_each q (x ∷ xs) e =
@@ -107,7 +102,7 @@ no_table v edit t level unused has =
     (and_parts (not (has_number (all_tables v) number) && not (has_backing v.backings number)) (not (has_backing edit.created number)) free).0).0 in
     let other = λ (u : TableView). not (u.number == number) in
     let all : list_all other (tables_of_level v level) ≡ true =
-    level_test other v.levels level
+    test_on other v.levels level
     (sym (list_all_flattened other v.levels) ∙ sym (not_any (λ (u : TableView). u.number == number) (all_tables v)) ∙ none) in
     let differs = All-contains (λ u. other u ≡ true) (tables_of_level v level) t (passes_each other (tables_of_level v level) all) has in
     both_ways (number == number) (not-true (number == number) differs) (eq-eqb number number refl)

@@ -2,8 +2,9 @@ use Rattle.std.proofs.Common.{◌+◌, drop, sym, ap, ◌∙◌, arith}
 use Rattle.std.specs.Prelude.{option_copied}
 use Rattle.std.proofs.lemmas.List.{drop_all}
 use Rattle.pb_ingest.specs.Levels.{free_levels}
-use Rattle.pb_ingest.proofs.FreeLevels.{level_first, stops_here, free_here}
+use Rattle.pb_ingest.proofs.FreeLevels.{stops_here, free_here}
 use Rattle.pb_ingest.proofs.level.free_levels.Goals as goal
+use Rattle.pb_version.proofs.Levels.{level_first}
 
 pub returns-then-any_meets-clause-value : goal.returns-then-any_meets-clause-value
 returns-then-any_meets-clause-value c =

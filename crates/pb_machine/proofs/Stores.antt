@@ -1,7 +1,6 @@
 -- Which stores a line changes.
-use Rattle.std.proofs.Common.{◌≡◌, ℕ, ◌==◌, Bool, true, false, List, Option, Some, None, if◌then◌else◌, refl, sym, ap, ◌∙◌, subst, inl, inr, arith}
-use Rattle.std.proofs.lemmas.Bool.{cases_Bool, cond-true, cond-false, eqb-true}
-use Rattle.std.proofs.lemmas.Bool.Decides.{nat_tests}
+use Rattle.std.proofs.Common.{◌≡◌, ℕ, ◌==◌, Bool, true, false, List, Option, Some, None, if◌then◌else◌, refl, sym, ap, ◌∙◌, subst, inl, inr}
+use Rattle.std.proofs.lemmas.Bool.{cases_Bool, cond-true, cond-false, eqb-true, eq-eqb}
 use Rattle.std.proofs.lemmas.Option.{same_Some}
 use Rattle.pb_reply.specs.declared.refusal.Refusal.{Refusal}
 use Rattle.pb_script.specs.declared.command.Command.{Command}
@@ -14,12 +13,9 @@ use Rattle.pb_machine.specs.After.{accepted, after_judged, beside, fallen_at, ha
 use Rattle.pb_machine.specs.Replies.{refusal_to}
 use Rattle.pb_machine.specs.Ran.{Ran}
 
-pub itself : (a : ℕ) → (a == a) ≡ true
-itself a = grind (arith, nat_tests)
-
 -- the store that was put, and the others
 pub put_there : (family : FamilyState) (number : ℕ) (new : StoreState) → (with_store family number new).stores number ≡ new
-put_there family number new = cond-true (number == number) new (family.stores number) (itself number)
+put_there family number new = cond-true (number == number) new (family.stores number) (eq-eqb number number refl)
 
 pub other_kept : (family : FamilyState) (number store other : ℕ) (new : StoreState) → ◌≡◌ {A = Option ℕ} (Some number) (Some store)
     → (other == store) ≡ false → (with_store family number new).stores other ≡ family.stores other

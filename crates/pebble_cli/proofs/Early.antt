@@ -1,5 +1,5 @@
 -- A run that ends before its first line.
-use Rattle.std.proofs.Common.{◌≡◌, ℕ, ◌<◌, ◌≤◌, Bool, true, false, List, [], ◌∷◌, length, Option, Some, None, nat_lt, cond, inl, inr, refl, sym, arith}
+use Rattle.std.proofs.Common.{◌≡◌, ℕ, ◌<◌, ◌≤◌, Bool, true, false, List, [], length, Option, Some, None, nat_lt, cond, inl, inr, refl, sym, arith}
 use Rattle.std.proofs.lemmas.Bool.{cond-true, cond-false}
 use Rattle.std.proofs.lemmas.Bool.Decides.{nat_tests}
 use Rattle.pebble_cli.specs.Lines.{fault_line}
@@ -49,6 +49,3 @@ read_prints task before faults = record {
   text = λ text. absurd text;
   none = λ _. refl;
 }
-
-pub head_same : {T : Type 0} (a b : T) (xs ys : List T) → a ∷ xs ≡ b ∷ ys → a ≡ b
-head_same a b xs ys e = cc

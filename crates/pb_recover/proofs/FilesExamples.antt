@@ -4,6 +4,7 @@ use Rattle.std.specs.Fmt.{decimal, digits}
 use Rattle.std.specs.Prelude.{codes, IfSome, IsSomeAnd}
 use Rattle.std.specs.List.{Contains}
 use Rattle.std.proofs.lemmas.List.Elements.{All-cons, All-contains, All-contains_itself, All-head, All-nil}
+use Rattle.std.proofs.lemmas.Option.{same_Some}
 use Rattle.pb_bytes.specs.BigEndian.{be32, number_of}
 use Rattle.pb_devices.specs.Contents.{Contents, Folder, IsSettled, MayLeave}
 use Rattle.pb_devices.proofs.Images.{settled_image}
@@ -48,9 +49,6 @@ all_settled folder name = record { durable = durable_in (folder name); nothing_p
 image_is : (folder : Folder) (name : List ℕ) (image : Option (List ℕ)) → MayLeave (still folder) name image → image ≡ folder name
 image_is folder name image left = settled_image (still folder) name image (all_settled folder name) left
 
-same_bytes : (one other : List ℕ) → Some one ≡ Some other → one ≡ other
-same_bytes one other e = cc
-
 is_log : (log : LogPlace) (list : List (List ℕ)) (bytes : List ℕ) (file : Option (List ℕ)) → file ≡ Some bytes → IsLogFile log.gate list bytes
     → IsSomeAnd file (IsLogFile log.gate list)
 is_log log list bytes file there is = subst (λ (f : Option (List ℕ)). IsSomeAnd f (IsLogFile log.gate list)) (sym there) is
@@ -62,7 +60,7 @@ log_on log list folder bytes there is sized =
       seen = is_log log list bytes (folder log.file) there is;
       images = λ image left. is_log log list bytes image (image_is folder log.file image left ∙ there) is;
       settled = all_settled folder log.file;
-      sized = λ other seen. ap length (same_bytes other bytes (sym seen ∙ there)) ∙ sized;
+      sized = λ other seen. ap length (same_Some other bytes (sym seen ∙ there)) ∙ sized;
     }
 
 -- ---- a new store

@@ -1,5 +1,5 @@
 -- What stands in the folder while a manifest is made.
-use Rattle.std.proofs.Common.{◌≡◌, ◌≤◌, ◌<◌, ◌⊎◌, ◌^◌, ℕ, List, [], ◌∷◌, ◌++◌, true, Option, Some, None, IfSome, sym, ap, ◌∙◌, subst, inl, inr, arith}
+use Rattle.std.proofs.Common.{◌≡◌, ◌≤◌, ◌<◌, ◌⊎◌, ◌^◌, ℕ, List, [], ◌∷◌, ◌++◌, true, Option, Some, None, IfSome, length, sym, ap, ◌∙◌, subst, inl, inr, arith}
 use Rattle.std.specs.Prelude.{is_some}
 use Rattle.std.specs.Option.{unwrap_or}
 use Rattle.pb_devices.specs.Contents.{Contents, Folder, MayLeave, IsImage, IsSettled, KeepsOthers}
@@ -123,7 +123,8 @@ module _ (number catalogue next : ℕ) (edit : VersionEdit) (spelling pointer : 
   pub made_whole : (log current : LogPlace) (before : List (List ℕ)) (disk : Contents)
       → IsLogOf (manifest_name number) (spelling ∷ []) log disk → IsLogOf current_name (before ++ pointer ∷ []) current disk
       → IfSome edit.next (λ end. next ≤ end) → number < next
-      → EachManifest (record { number = number; catalogue = catalogue; next = next; log = log; current = current }) (edited empty_version edit) disk
+      → EachManifest (record { number = number; catalogue = catalogue; next = next; first = length spelling; log = log; current = current })
+      (edited empty_version edit) disk
   made_whole log current before disk log_is current_is within below = record {
     pointers = before ++ pointer_spelling (pointer_to number catalogue) ∷ [];
     current = subst (λ (p : List ℕ). EachLog current (before ++ p ∷ []) disk) pointer_is current_is.each;
@@ -133,6 +134,7 @@ module _ (number catalogue next : ℕ) (edit : VersionEdit) (spelling pointer : 
     log = subst (λ (s : List ℕ). EachLog log (s ∷ []) disk) spelled log_is.each;
     log_file = log_is.name;
     says = says_first edit in_form unbroken;
+    first_is = ap length spelled;
     drawn = first_drawn edit next unbroken within;
     own = let reached = first_drawn edit next unbroken within in omega arith;
   }

@@ -1,5 +1,5 @@
 -- What the images of a folder say between the device calls.
-use Rattle.std.proofs.Common.{◌≡◌, ℕ, ◌<◌, ◌⊎◌, ◌^◌, List, [], ◌∷◌, ◌++◌, Option, Some, None, IsSomeAnd, sym, ◌∙◌, subst, inl, inr, arith}
+use Rattle.std.proofs.Common.{◌≡◌, ℕ, ◌<◌, ◌⊎◌, ◌^◌, List, [], ◌∷◌, ◌++◌, Option, Some, None, IsSomeAnd, map, refl, sym, ◌∙◌, subst, inl, inr, arith}
 use Rattle.pb_devices.specs.Contents.{Contents, Folder, MayLeave, IsImage, KeptAt, KeepsOthers}
 use Rattle.pb_edit.specs.Edit.{VersionEdit}
 use Rattle.pb_edit.specs.Grammar.{IsEdit, edit_spelling}
@@ -15,7 +15,7 @@ use Rattle.pb_version.specs.Version.{VersionView}
 use Rattle.pb_version.specs.Edited.{edited}
 use Rattle.pb_version.specs.Rules.{first_broken}
 use Rattle.pb_version.specs.SaysVersion.{SaysVersion}
-use Rattle.pb_manifest.specs.Manifest.{ManifestView, catalogue_name, manifest_name, SaysFolder, EachManifest, EachSays}
+use Rattle.pb_manifest.specs.Manifest.{ManifestView, catalogue_name, first_len, manifest_name, SaysFolder, EachManifest, EachSays}
 use Rattle.pb_version.proofs.SaysLaws.{says_more}
 use Rattle.pb_manifest.proofs.Kept.{next_stays}
 
@@ -87,9 +87,24 @@ manifest_kept manifest version old new kept kept_manifest each = record {
   log = each_kept_at manifest.log each.edits old new (subst (λ (n : List ℕ). KeptAt old new n) (sym each.log_file) kept_manifest) each.log;
   log_file = each.log_file;
   says = each.says;
+  first_is = each.first_is;
   drawn = each.drawn;
   own = each.own;
 }
+
+-- the first payload stays the first
+some_stay : (edits : List (List ℕ)) (payload : List ℕ) → (edits ≡ [] → ⊥) → first_len edits ≡ first_len (edits ++ payload ∷ [])
+some_stay [] payload some = absurd (some refl)
+some_stay (first ∷ others) payload some = refl
+
+no_edits : (edits : List VersionEdit) → map edit_spelling edits ≡ [] → edits ≡ []
+no_edits [] none = refl
+no_edits (edit ∷ edits) none = cc
+
+first_stays : (edits : List (List ℕ)) (payload : List ℕ) (version : VersionView) → SaysVersion edits version
+    → first_len edits ≡ first_len (edits ++ payload ∷ [])
+first_stays edits payload version says =
+    some_stay edits payload (λ none. says.folds.some (no_edits says.edits (sym says.spelled ∙ none)))
 
 -- an edit is appended to the manifest
 module _ (manifest : ManifestView) (version : VersionView) (edit : VersionEdit) (payload : List ℕ) (old new : Contents)
@@ -128,6 +143,7 @@ module _ (manifest : ManifestView) (version : VersionView) (edit : VersionEdit) 
     log = is;
     log_file = same ∙ each.log_file;
     says = says_appended;
+    first_is = each.first_is ∙ first_stays each.edits payload version each.says;
     drawn = let before = each.drawn in let after = next_stays version edit unbroken in omega arith;
     own = let before = each.own in let after = next_stays version edit unbroken in omega arith;
   }

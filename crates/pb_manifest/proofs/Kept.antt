@@ -16,9 +16,6 @@ use Rattle.pb_manifest.specs.Numbers.{IsFolded}
 
 -- ---- tests
 
-pub le_is : (m n : ℕ) → m ≤ n → nat_le m n ≡ true
-le_is m n is = grind (arith, nat_tests)
-
 -- the answer of nine tests, one after the other
 abbrev pub first_of_nine : Bool → Bool → Bool → Bool → Bool → Bool → Bool → Bool → Bool → Option Broken
 first_of_nine a b c d e f g h i =

@@ -8,3 +8,7 @@ pub mod Creating
 pub mod Opening
 pub mod Opened
 pub mod Errors
+pub mod Raised
+pub mod Rotating
+pub mod Snapshot
+pub mod Due

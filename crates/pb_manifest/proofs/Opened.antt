@@ -14,7 +14,7 @@ use Rattle.pb_payloads.specs.Current.{Pointer, SaysCurrent, pointer_to}
 use Rattle.pb_version.specs.Version.{VersionView}
 use Rattle.pb_version.specs.SaysVersion.{SaysVersion}
 use Rattle.pb_manifest.specs.Found.{AreThere, HasVersion, IsDamaged, IsLacking, IsNamed, IsUnfolded, IsUnreserved, KeepsPayloads, KeepsUnnamed, Names, Says}
-use Rattle.pb_manifest.specs.Manifest.{EachManifest, catalogue_name, manifest_name}
+use Rattle.pb_manifest.specs.Manifest.{EachManifest, catalogue_name, first_len, manifest_name}
 use Rattle.pb_manifest.specs.Steps.{IsFound, IsLost, IsUnread, OpensIfThere}
 use Rattle.pb_manifest.proofs.Folders.{apart, apart_catalogue, has_such, such_has}
 use Rattle.pb_manifest.proofs.Opening.{both_keep, both_settled, new_names_none}
@@ -204,11 +204,12 @@ module _ (old mid : Contents) (current : LogPlace) (number catalogue : ℕ) (sta
     read_settled first last = both_settled old mid state.settled state.opens new number low then first last
 
     -- it stands at rest then
-    pub opened_manifest : (version : VersionView) (next : ℕ) (log : LogPlace) → next ≡ version.five.next
+    pub opened_manifest : (version : VersionView) (next first : ℕ) (log : LogPlace) → next ≡ version.five.next
+        → first ≡ first_len (payloads_in (mid.seen (manifest_name number)))
         → IsOpened (manifest_name number) (payloads_in (mid.seen (manifest_name number))) log mid new → Says number version mid.seen
         → number < version.five.next
-        → EachManifest (record { number = number; catalogue = catalogue; next = next; log = log; current = current }) version new
-    opened_manifest version next log next_is opened says own = record {
+        → EachManifest (record { number = number; catalogue = catalogue; next = next; first = first; log = log; current = current }) version new
+    opened_manifest version next first log next_is first_is opened says own = record {
       pointers = found.payloads;
       current =
           each_kept current found.payloads mid new (manifest_name number) (λ is. other (sym is ∙ found.opened.name))
@@ -219,6 +220,7 @@ module _ (old mid : Contents) (current : LogPlace) (number catalogue : ℕ) (sta
       log = opened.each;
       log_file = opened.name;
       says = such_in (mid.seen (manifest_name number)) (λ l. SaysVersion l version) says;
+      first_is = first_is;
       drawn = omega (arith, next_is);
       own = own;
     }

@@ -4,3 +4,4 @@ pub mod Faults
 pub mod Numbers
 pub mod Steps
 pub mod Found
+pub mod Rotation

@@ -1,5 +1,5 @@
 -- A manifest over a folder: which version the folder's files say.
-use Rattle.std.specs.Prelude.{◌≡◌, ℕ, ◌<◌, ◌≤◌, ◌⊎◌, List}
+use Rattle.std.specs.Prelude.{◌≡◌, ℕ, ◌<◌, ◌≤◌, ◌⊎◌, List, [], ◌∷◌, length}
 use Rattle.pb_devices.specs.BeforeOrAfter.{IsBeforeOrAfter}
 use Rattle.pb_devices.specs.Contents.{Contents, Folder, IsImage, KeptBut}
 use Rattle.pb_gate_log.specs.EachLog.{LogPlace, EachLog}
@@ -10,11 +10,13 @@ use Rattle.pb_payloads.specs.Current.{SaysCurrent, pointer_to}
 use Rattle.pb_version.specs.Version.{VersionView}
 use Rattle.pb_version.specs.SaysVersion.{SaysVersion}
 
--- the numbers of the manifest and of the catalogue, the number that is drawn next, and the two logs that are open
+-- the numbers of the manifest and of the catalogue, the number that is drawn next, the length of the manifest's first payload,
+-- and the two logs that are open
 pub record ManifestView : Type 0 where
   pub number : ℕ
   pub catalogue : ℕ
   pub next : ℕ
+  pub first : ℕ
   pub log : LogPlace
   pub current : LogPlace
 
@@ -28,6 +30,11 @@ manifest_name number = file_name Manifest number
 
 abbrev pub catalogue_name : ℕ → List ℕ
 catalogue_name number = file_name Catalogue number
+
+-- the length of the first of these payloads
+abbrev pub first_len : List (List ℕ) → ℕ
+first_len [] = 0
+first_len (payload ∷ others) = length payload
 
 -- the files of a folder say this version: the last payload of the current pointer names the two files, and the manifest is
 -- there, with payloads that are edits and fold to the version
@@ -45,6 +52,7 @@ pub record EachManifest (manifest : ManifestView) (version : VersionView) (disk 
   pub log : EachLog manifest.log edits disk
   pub log_file : manifest.log.file ≡ manifest_name manifest.number
   pub says : SaysVersion edits version
+  pub first_is : manifest.first ≡ first_len edits
   -- each number that was drawn is reserved, and so is the manifest's own
   pub drawn : manifest.next ≤ version.five.next
   pub own : manifest.number < version.five.next

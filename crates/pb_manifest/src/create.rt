@@ -1,4 +1,4 @@
-ghost use Rattle.std.specs.Prelude.{◌≡◌, ◌⊎◌, ℕ, ◌++◌, ◌∷◌, ◌<◌, ◌^◌, [], true, List, Option, None, Err, IfErr, IfOk};
+ghost use Rattle.std.specs.Prelude.{◌≡◌, ◌⊎◌, ℕ, ◌+◌, ◌++◌, ◌∷◌, ◌<◌, ◌^◌, [], true, List, length, Option, None, Err, IfErr, IfOk};
 ghost use Rattle.pb_devices.specs.Contents.{Folder, IsImage, IsSettled, KeepsOthers, MayLeave};
 ghost use Rattle.pb_devices.specs.Counts.{HasCauseAs};
 ghost use Rattle.pb_edit.specs.Grammar.{IsEdit, edit_spelling};
@@ -47,6 +47,7 @@ pub(crate) fn write_manifest<D: Disk>(
     requires low { number < 2 ^ 62 }
     requires absent { D.told ≡ true → (D.contents disk.old).seen (manifest_name number) ≡ None }
     requires settled { D.told ≡ true → IsSettled (D.contents disk.old) current_name }
+    ensures len { IfOk result (λ logs. logs.0.len ≡ 6 + length edit.now) }
     ensures log { D.told ≡ true → IfOk result (λ logs. IsLogOf (manifest_name number) (edit.now ∷ []) logs.0 (D.contents disk.new)) }
     ensures current { D.told ≡ true → IfOk result (λ logs. IsLogOf current_name
         (payloads_in ((D.contents disk.old).seen current_name) ++ pointer.now ∷ []) logs.1 (D.contents disk.new)) }
@@ -65,9 +66,15 @@ pub(crate) fn write_manifest<D: Disk>(
 }
 
 /// Makes a log of one payload.
-fn make_log<D: Disk>(disk: &mut D, file: Name, payload: &[u8]) -> Result<GateLog, CommitError>
+pub(crate) fn make_log<D: Disk>(
+    disk: &mut D,
+    file: Name,
+    payload: &[u8],
+) -> Result<GateLog, CommitError>
     requires { D.told ≡ true → (D.contents disk.old).seen file ≡ None }
     ensures ok { D.told ≡ true → IfOk result (λ log. IsLogOf file (payload.now ∷ []) log (D.contents disk.new)) }
+    ensures len { IfOk result (λ log. log.len ≡ 6 + length payload.now) }
+    ensures gate { IfOk result (λ log. log.gate ≡ 5 + length payload.now) }
     ensures others { D.told ≡ true → KeepsOthers (D.contents disk.old) (D.contents disk.new) file }
     ensures known { IfErr result (λ error. (error ≡ CommitError.Disk) ⊎ (error ≡ CommitError.NoMemory)) }
     ensures cause { HasCauseAs IsCommitFault (D.fault_count disk.old) (D.fault_count disk.new) result }

@@ -3,6 +3,7 @@
 ghost use Rattle.std.specs.Prelude.{◌≡◌};
 ghost use Rattle.pb_devices.specs.Contents.{Folder, IsImage, KeptAt};
 ghost use Rattle.pb_manifest.specs.declared.numbers.TheConstants.{BLOCK};
+ghost use Rattle.pb_manifest.specs.declared.rotation.TheConstants.{ROTATED_LEN, ROTATED_TIMES};
 ghost use Rattle.pb_manifest.specs.Manifest.{EachManifest, ManifestView, SaysFolder, manifest_name};
 ghost use Rattle.pb_manifest.specs.Numbers.{IsFolded};
 ghost use Rattle.pb_names.specs.Spelling.{current_name};
@@ -26,6 +27,12 @@ pub fn manifest_kept<D: Disk>(old: &D, new: &D)
 /// A block has 64 numbers.
 pub fn a_block_has_64_numbers()
     ensures { BLOCK ≡ 64 }
+{}
+
+/// A manifest is rotated from 1,048,576 bytes on, and where it has four times the bytes of its first payload.
+pub fn when_a_manifest_is_rotated()
+    ensures len { ROTATED_LEN ≡ 1048576 }
+    ensures times { ROTATED_TIMES ≡ 4 }
 {}
 
 /// A version that edits fold to has format 1, so no reservation breaks a rule of it.

@@ -8,7 +8,9 @@ pub mod laws;
 mod manifest;
 mod numbers;
 mod open;
+mod rotation;
 
 pub use error::{CommitError, ManifestError};
 pub use manifest::Manifest;
 pub use numbers::BLOCK;
+pub use rotation::{ROTATED_LEN, ROTATED_TIMES};

@@ -1,4 +1,4 @@
-ghost use Rattle.std.specs.Prelude.{◌≡◌, ◌≢◌, ◌⊎◌, ◌+◌, ◌<◌, ◌≤◌, ◌^◌, true, ℕ, List, None, Err, IfNone, IfOk, IfSome, OnErr, OnOk};
+ghost use Rattle.std.specs.Prelude.{◌≡◌, ◌≢◌, ◌⊎◌, ◌+◌, ◌<◌, ◌≤◌, ◌^◌, true, false, ℕ, List, None, Err, IfNone, IfOk, IfSome, OnErr, OnOk};
 ghost use Rattle.pb_devices.specs.Contents.{Folder, IsImage, IsSettled, KeepsOthers};
 ghost use Rattle.pb_devices.specs.Counts.{HasCauseAs};
 ghost use Rattle.pb_edit.specs.Grammar.{IsEdit};
@@ -9,12 +9,16 @@ ghost use Rattle.pb_gate_log.specs.Payloads.{payloads_in};
 ghost use Rattle.pb_gate_log.specs.NewFolder.{IsNew};
 ghost use Rattle.pb_manifest.specs.Manifest.{EachManifest, EachSays, IsNumbered, KeepsAllBut, SaysFolder, manifest_name};
 ghost use Rattle.pb_manifest.specs.Numbers.{IsFolded, IsSpent, OnlyReserves, SameNumbers, block_end, last_block_end, with_next};
+ghost use Rattle.pb_manifest.specs.Rotation.{FirstIs, KeepsAllButManifests, SaysAround, is_due, is_mostly_history, next_after, number_after, version_before};
 ghost use Rattle.pb_names.specs.Spelling.{current_name};
 ghost use Rattle.pb_version.specs.declared.broken.Broken.{Broken};
 ghost use Rattle.pb_version.specs.Edited.{edited};
 ghost use Rattle.pb_version.specs.Rules.{first_broken};
+ghost use Rattle.pb_version.specs.Snapshot.{snapshot_of};
 ghost use Rattle.pb_version.specs.Version.{empty_version};
 ghost use Rattle.pb_payloads.specs.Current.{pointer_to};
+
+mod rotate;
 
 use crate::append::append;
 use crate::create::{first_version, write_manifest};
@@ -40,6 +44,7 @@ pub struct Manifest {
     number: u64,
     catalogue: u64,
     next: u64,
+    first: u64,
     log: GateLog,
     current: GateLog,
 }
@@ -49,7 +54,7 @@ impl Model for Manifest {
 
     ghost Value = { ManifestView };
 
-    ghost view = { λ m. record { number = m.number; catalogue = m.catalogue; next = m.next; log = m.log; current = m.current } };
+    ghost view = { λ m. record { number = m.number; catalogue = m.catalogue; next = m.next; first = m.first; log = m.log; current = m.current } };
 }
 
 impl Manifest {
@@ -78,6 +83,7 @@ impl Manifest {
         ensures folded { IfOk result (λ made. IsFolded made.1) }
         ensures own { IfOk result (λ made. made.0.number < made.1.five.next) }
         ensures low { IfOk result (λ made. (made.0.number < 2 ^ 62) × (made.0.catalogue < 2 ^ 62)) }
+        ensures new { IfOk result (λ made. is_mostly_history made.0.log.len made.0.first ≡ false) }
         ensures judged { Judges (first_broken empty_version first.now) result }
         ensures untouched { (rule : Broken) → result ≡ Err (CommitError.Broken rule) → disk.new ≡ disk.old }
         ensures crash { D.told ≡ true → (folder : Folder) → IsImage (D.contents disk.new) folder
@@ -100,6 +106,7 @@ impl Manifest {
                 number,
                 catalogue,
                 next,
+                first: edit.len() as u64,
                 log,
                 current,
             },
@@ -140,12 +147,13 @@ impl Manifest {
         let Some((current, number, catalogue)) = find(alloc, disk)? else {
             return Ok(None);
         };
-        let (log, version) = read_version(alloc, disk, number)?;
+        let (log, first, version) = read_version(alloc, disk, number)?;
         let reserved = version.five().next;
         let manifest = Manifest {
             number,
             catalogue,
             next: reserved,
+            first,
             log,
             current,
         };
@@ -166,8 +174,13 @@ impl Manifest {
         self.catalogue
     }
 
-    /// Commits an edit: six device calls. Where a rule is broken, and without memory, nothing has changed. After `Disk` the
-    /// version is as before, and each image says it or the one after the edit: the manifest is to be opened again.
+    /// Commits an edit: six device calls, and 17 before them where a rotation is due, 23 where it needs a block of numbers. Most
+    /// of the manifest is history then: a new one is made that begins with a snapshot, `CURRENT` names it, and the old one goes.
+    /// docs/FORMATS.md, "Manifest".
+    ///
+    /// A rule that is broken is told before any device is called. After `NoMemory` the manifest goes on: nothing has changed, or
+    /// numbers were drawn for a rotation. After `Disk` the version is as before, perhaps with a block of numbers reserved, and
+    /// each image says it, by the old manifest or the new one, or the one after the edit: the manifest is to be opened again.
     /// `Spent` never comes.
     pub fn commit<D: Disk>(
         &mut self,
@@ -178,23 +191,35 @@ impl Manifest {
     ) -> Result<(), CommitError>
         requires edit { IsEdit edit.now }
         requires kept { D.told ≡ true → EachManifest self.old version.old (D.contents disk.old) }
-        ensures kept { D.told ≡ true → OnOk result (EachManifest self.new version.new (D.contents disk.new)) }
-        ensures ok { OnOk result (version.new ≡ edited version.old edit.now) }
-        ensures folded { OnOk result (IsFolded version.old → IsFolded version.new) }
+        requires unmade { D.told ≡ true → is_due self.old version.old edit.now ≡ true
+            → (D.contents disk.old).seen (manifest_name self.old.next) ≡ None }
+        ensures ok { OnOk result (version.new ≡ edited (version_before self.old version.old edit.now) edit.now) }
+        ensures turned { OnOk result (self.new.number ≡ number_after self.old version.old edit.now) }
+        ensures drawn { OnOk result (self.new.next ≡ next_after self.old version.old edit.now) }
+        ensures catalogue { self.new.catalogue ≡ self.old.catalogue }
+        ensures same { OnErr result ((self.new.number ≡ self.old.number) × (self.old.next ≤ self.new.next) × OnlyReserves version.old version.new) }
         ensures judged { Judges (first_broken version.old edit.now) result }
-        ensures numbers { SameNumbers self.old self.new }
-        ensures same { OnErr result ((self.new ≡ self.old) × (version.new ≡ version.old)) }
-        ensures untouched { OnErr result ((result ≡ Err CommitError.Disk) ⊎ (disk.new ≡ disk.old)) }
-        ensures crash { D.told ≡ true
+        ensures untouched { OnErr result (first_broken version.old edit.now ≢ None
+            → (disk.new ≡ disk.old) × (self.new ≡ self.old) × (version.new ≡ version.old)) }
+        ensures folded { IsFolded version.old → IsFolded version.new }
+        ensures reserved { self.old.next ≤ version.old.five.next → self.new.next ≤ version.new.five.next }
+        ensures kept { D.told ≡ true → (result ≡ Err CommitError.Disk → ⊥) → EachManifest self.new version.new (D.contents disk.new) }
+        ensures first { D.told ≡ true → OnOk result (is_due self.old version.old edit.now ≡ true
+            → FirstIs (D.contents disk.new).seen self.new.number (snapshot_of (version_before self.old version.old edit.now))) }
+        ensures crash { D.told ≡ true → (folder : Folder) → IsImage (D.contents disk.new) folder
+            → SaysAround self.old version.old edit.now folder }
+        ensures others { D.told ≡ true → KeepsAllButManifests (D.contents disk.old) (D.contents disk.new) self.old.number self.old.next }
+        ensures plain { D.told ≡ true → (is_due self.old version.old edit.now ≡ true → ⊥)
+            → KeepsOthers (D.contents disk.old) (D.contents disk.new) (manifest_name self.old.number) }
+        ensures in_place { D.told ≡ true → (is_due self.old version.old edit.now ≡ true → ⊥)
             → EachSays self.old.number self.old.catalogue version.old (edited version.old edit.now) (D.contents disk.new) }
-        ensures others { D.told ≡ true → KeepsOthers (D.contents disk.old) (D.contents disk.new) (manifest_name self.old.number) }
         ensures cause { HasCauseAs IsCommitFault (D.fault_count disk.old) (D.fault_count disk.new) result }
     {
-        // All that may be refused, and all memory, comes before the append: behind it nothing may fail.
-        let prepared = version.prepare(alloc, edit)?;
-        let payload = edit.spell(alloc)?;
-        append(&mut self.log, disk, payload.as_slice())?;
-        version.install(prepared);
+        if self.is_due(version, edit) {
+            self.commit_and_rotate(alloc, disk, version, edit)?;
+            return Ok(());
+        }
+        self.commit_in_place(alloc, disk, version, edit)?;
         Ok(())
     }
 
@@ -297,9 +322,40 @@ impl Manifest {
             return Err(CommitError::Spent);
         }
         let edit = reserve_below(alloc, next + BLOCK);
-        match self.commit(alloc, disk, version, &edit) {
+        match self.commit_in_place(alloc, disk, version, &edit) {
             Ok(()) => Ok(()),
             Err(error) => Err(error),
         }
+    }
+
+    // Commits an edit to the manifest as it stands: six device calls. Where a rule is broken, and without memory, nothing has
+    // changed. After `Disk` the version is as before, and each image says it or the one after the edit.
+    fn commit_in_place<D: Disk>(
+        &mut self,
+        alloc: Global,
+        disk: &mut D,
+        version: &mut Version,
+        edit: &Edit,
+    ) -> Result<(), CommitError>
+        requires edit { IsEdit edit.now }
+        requires kept { D.told ≡ true → EachManifest self.old version.old (D.contents disk.old) }
+        ensures kept { D.told ≡ true → OnOk result (EachManifest self.new version.new (D.contents disk.new)) }
+        ensures ok { OnOk result (version.new ≡ edited version.old edit.now) }
+        ensures folded { OnOk result (IsFolded version.old → IsFolded version.new) }
+        ensures judged { Judges (first_broken version.old edit.now) result }
+        ensures numbers { SameNumbers self.old self.new }
+        ensures same { OnErr result ((self.new ≡ self.old) × (version.new ≡ version.old)) }
+        ensures untouched { OnErr result ((result ≡ Err CommitError.Disk) ⊎ (disk.new ≡ disk.old)) }
+        ensures crash { D.told ≡ true
+            → EachSays self.old.number self.old.catalogue version.old (edited version.old edit.now) (D.contents disk.new) }
+        ensures others { D.told ≡ true → KeepsOthers (D.contents disk.old) (D.contents disk.new) (manifest_name self.old.number) }
+        ensures cause { HasCauseAs IsCommitFault (D.fault_count disk.old) (D.fault_count disk.new) result }
+    {
+        // All that may be refused, and all memory, comes before the append: behind it nothing may fail.
+        let prepared = version.prepare(alloc, edit)?;
+        let payload = edit.spell(alloc)?;
+        append(&mut self.log, disk, payload.as_slice())?;
+        version.install(prepared);
+        Ok(())
     }
 }

@@ -7,7 +7,7 @@ ghost use Rattle.pb_gate_log.specs.NewFolder.{IsNew};
 ghost use Rattle.pb_gate_log.specs.Payloads.{payloads_in};
 ghost use Rattle.pb_manifest.specs.Faults.{IsManifestFault};
 ghost use Rattle.pb_manifest.specs.Found.{AreThere, IsDamaged, IsLacking, Says};
-ghost use Rattle.pb_manifest.specs.Manifest.{catalogue_name, manifest_name};
+ghost use Rattle.pb_manifest.specs.Manifest.{catalogue_name, first_len, manifest_name};
 ghost use Rattle.pb_manifest.specs.Numbers.{IsFolded};
 ghost use Rattle.pb_manifest.specs.Steps.{IsFound, IsLost, IsUnread, OpensIfThere};
 ghost use Rattle.pb_names.specs.Spelling.{current_name};
@@ -49,19 +49,20 @@ pub(crate) fn find<D: Disk>(
     Ok(Some((current, manifest, catalogue)))
 }
 
-/// Opens the log of a manifest, and gives the version that its edits fold to.
+/// Opens the log of a manifest, and gives the length of its first payload and the version that its edits fold to.
 pub(crate) fn read_version<D: Disk>(
     alloc: Global,
     disk: &mut D,
     number: u64,
-) -> Result<(GateLog, Version), ManifestError>
+) -> Result<(GateLog, u64, Version), ManifestError>
     requires there { D.told ≡ true → IsSome ((D.contents disk.old).seen (manifest_name number)) }
     requires settled { D.told ≡ true → IsSettled (D.contents disk.old) (manifest_name number) }
     ensures ok { D.told ≡ true → IfOk result (λ read. IsOpened (manifest_name number)
         (payloads_in ((D.contents disk.old).seen (manifest_name number))) read.0 (D.contents disk.old) (D.contents disk.new)) }
-    ensures says { D.told ≡ true → IfOk result (λ read. Says number read.1 (D.contents disk.old).seen) }
-    ensures folded { IfOk result (λ read. IsFolded read.1) }
-    ensures own { IfOk result (λ read. number < read.1.five.next) }
+    ensures first { D.told ≡ true → IfOk result (λ read. read.1 ≡ first_len (payloads_in ((D.contents disk.old).seen (manifest_name number)))) }
+    ensures says { D.told ≡ true → IfOk result (λ read. Says number read.2 (D.contents disk.old).seen) }
+    ensures folded { IfOk result (λ read. IsFolded read.2) }
+    ensures own { IfOk result (λ read. number < read.2.five.next) }
     ensures damaged { D.told ≡ true → (file : List ℕ) → result ≡ Err (ManifestError.Damaged file)
         → IsUnread number (D.contents disk.old).seen file }
     ensures opens { D.told ≡ true → Opens (manifest_name number) (D.contents disk.old) (D.contents disk.new) }
@@ -75,7 +76,17 @@ pub(crate) fn read_version<D: Disk>(
     if number >= version.five().next {
         return Err(ManifestError::Damaged(current()));
     }
-    Ok((log, version))
+    Ok((log, first_len(&payloads), version))
+}
+
+/// The length of the first payload.
+fn first_len(payloads: &[Bytes]) -> u64
+    ensures { result ≡ first_len payloads.now }
+{
+    match payloads {
+        [] => 0,
+        [first, ..] => first.as_slice().len() as u64,
+    }
 }
 
 /// Opens the log of `CURRENT`, and gives its payloads. None exactly where it is absent.

@@ -105,8 +105,8 @@ returns-clause-kept g c told =
     is_opening old mid (c.requires told) (c.in_ok-current.ensures.opens told)
     c.in_ok-current.field-0 current number catalogue c.in-Some.is (c.in_ok-current.ensures.found told) in
     opened_manifest old mid current number catalogue state (g.D.Disk.contents c.read_version.new.disk) (c.in_ok-log.ensures.opens told)
-    c.in_ok-log.version c.reserved.inside.next c.in_ok-log.log
-    (ap (λ (f : FiveNumbers). f.next) (c.reserved.view_is ∙ c.five.ensures.value)) (c.in_ok-log.ensures.ok told)
+    c.in_ok-log.version c.reserved.inside.next c.in_ok-log.first c.in_ok-log.log
+    (ap (λ (f : FiveNumbers). f.next) (c.reserved.view_is ∙ c.five.ensures.value)) (c.in_ok-log.ensures.first told) (c.in_ok-log.ensures.ok told)
     (c.in_ok-log.ensures.says told) c.in_ok-log.ensures.own
 
 pub returns-clause-undamaged : goal.returns-clause-undamaged

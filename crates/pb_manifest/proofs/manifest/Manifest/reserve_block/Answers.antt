@@ -13,8 +13,8 @@ pub returns-then-next-clause-crash : goal.returns-then-next-clause-crash
 returns-then-next-clause-crash g c = λ told folder image.
     inl (each_says c.args.self.now c.args.version.now (g.D.Disk.contents c.args.disk.now) (c.requires told) folder image)
 
-pub commit-requires-clause-edit : goal.commit-requires-clause-edit
-commit-requires-clause-edit g c =
+pub commit_in_place-requires-clause-edit : goal.commit_in_place-requires-clause-edit
+commit_in_place-requires-clause-edit g c =
     subst IsEdit (sym c.reserve_below-edit.ensures) (reservation_is (c.next.inside.next + 64) (omega (arith, c.if-next.false)))
 
 pub returns-clause-unbroken : goal.returns-clause-unbroken
@@ -30,19 +30,19 @@ pub returns-clause-crash : goal.returns-clause-crash
 returns-clause-crash g c = λ told.
     let same : c.next.inside.next ≡ c.args.version.now.five.next =
     ap (λ (f : FiveNumbers). f.next) (c.next.view_is ∙ c.five.ensures.value) in
-    block_says c.args.self.now.number c.args.self.now.catalogue (g.D.Disk.contents c.commit.new.disk)
-    c.args.version.now c.commit.new.version c.reserve_below-edit.result
+    block_says c.args.self.now.number c.args.self.now.catalogue (g.D.Disk.contents c.commit_in_place.new.disk)
+    c.args.version.now c.commit_in_place.new.version c.reserve_below-edit.result
     (c.reserve_below-edit.ensures ∙ ap (λ n. reservation (n + 64)) same) c.in-Err.ensures.same.1 (c.in-Err.ensures.crash told)
 
 pub returns-in-Ok-clause-ok : goal.returns-in-Ok-clause-ok
 returns-in-Ok-clause-ok g c =
     let same : c.next.inside.next ≡ c.args.version.now.five.next =
     ap (λ (f : FiveNumbers). f.next) (c.next.view_is ∙ c.five.ensures.value) in
-    block_after c.args.version.now c.commit.new.version c.reserve_below-edit.result (c.args.version.now.five.next + 64)
+    block_after c.args.version.now c.commit_in_place.new.version c.reserve_below-edit.result (c.args.version.now.five.next + 64)
     (c.reserve_below-edit.ensures ∙ ap (λ n. reservation (n + 64)) same) c.in-Ok.ensures.ok
 
 pub returns-in-Ok-clause-crash : goal.returns-in-Ok-clause-crash
 returns-in-Ok-clause-crash g c = λ told folder image.
-    inl (each_says_of c.commit.new.self c.commit.new.version (g.D.Disk.contents c.commit.new.disk)
+    inl (each_says_of c.commit_in_place.new.self c.commit_in_place.new.version (g.D.Disk.contents c.commit_in_place.new.disk)
     c.args.self.now.number c.args.self.now.catalogue
     c.in-Ok.ensures.numbers.number c.in-Ok.ensures.numbers.catalogue (c.in-Ok.ensures.kept told) folder image)

@@ -75,6 +75,7 @@ first_files = record {
     number = 1;
     catalogue = 2;
     next = 4;
+    first = 10;
     log = record { file = codes "1.man"; gate = 15; len = 16 };
     current = record { file = codes "CURRENT"; gate = 7; len = 8 };
   };
@@ -146,6 +147,7 @@ each_manifest = record {
   log = log_on first_files.manifest.log (first_payload ∷ []) first_folder first_manifest refl manifest_log refl;
   log_file = refl;
   says = says_version;
+  first_is = refl;
   drawn = omega arith;
   own = omega arith;
 }

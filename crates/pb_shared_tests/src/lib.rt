@@ -19,6 +19,8 @@ mod plain;
 #[cfg(test)]
 mod rows;
 #[cfg(test)]
+mod sizes;
+#[cfg(test)]
 mod sweep;
 #[cfg(test)]
 mod tables;

@@ -16,7 +16,7 @@ use Rattle.pb_version.specs.Stored.{backing_of}
 use Rattle.pb_version.proofs.Levels.{flattened_cons, any_append}
 use Rattle.pb_excise.specs.Excised.{parts_of, numbered_parts, left_of, parts_count, excised_tables, excised_levels}
 use Rattle.pb_excise.specs.Planned.{is_cut, deleted_item, deleted_items, parts_from, parts_of_levels, part_items, are_some, leaves_a_part}
-use Rattle.pb_excise.specs.Drafted.{DraftView, whole, gone, shown_by, with_cut, with_table, with_level, with_levels}
+use Rattle.pb_excise.specs.Drafted.{DraftView, whole, with_cut, with_table, with_level, with_levels}
 use Rattle.pb_excise.proofs.Sets.{inserted, inserted_ascends}
 
 -- what the later draft has beside the earlier one: so many parts, these items, and these backings, as tests of them

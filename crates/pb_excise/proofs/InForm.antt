@@ -248,17 +248,17 @@ upto_more m n k h e = grind (arith, nat_tests)
 place_rises : (k m n : ℕ) → nat_lt m n ≡ true → (nat_lt k k || (k == k && nat_lt m n)) ≡ true
 place_rises k m n e = grind (arith, nat_tests)
 
-abbrev from : ℕ → TableView → Bool
+abbrev pub from : ℕ → TableView → Bool
 from n p = nat_le n p.number
 
-abbrev rise : TableView → TableView → Bool
+abbrev pub rise : TableView → TableView → Bool
 rise p q = nat_lt p.number q.number
 
 numbered_from : (t : TableView) (m n : ℕ) (parts : List KeySpan) → m ≤ n → list_all (from m) (numbered_parts t n parts) ≡ true
 numbered_from t m n [] h = refl
 numbered_from t m n (part ∷ parts) h = λ i. le-leb m n h i && numbered_from t m (n + 1) parts (omega arith) i
 
-parts_are_from : (cut : KeySpan) (m n : ℕ) (ts : List TableView) → m ≤ n → list_all (from m) (parts_from cut n ts) ≡ true
+pub parts_are_from : (cut : KeySpan) (m n : ℕ) (ts : List TableView) → m ≤ n → list_all (from m) (parts_from cut n ts) ≡ true
 parts_are_from cut m n [] h = refl
 parts_are_from cut m n (t ∷ ts) h =
     list_all-append (from m) (numbered_parts t n (parts_of cut t)) (parts_from cut (n + length (parts_of cut t)) ts)
@@ -282,7 +282,7 @@ numbered_rise t n (part ∷ parts) others low up =
     (numbered_parts t (n + 1) parts ++ others) behind i
     && numbered_rise t (n + 1) parts others low_next up i
 
-parts_rise : (cut : KeySpan) (n : ℕ) (ts : List TableView) → each_pair rise (parts_from cut n ts) ≡ true
+pub parts_rise : (cut : KeySpan) (n : ℕ) (ts : List TableView) → each_pair rise (parts_from cut n ts) ≡ true
 parts_rise cut n [] = refl
 parts_rise cut n (t ∷ ts) =
     let m = n + length (parts_of cut t) in

@@ -117,7 +117,7 @@ module _ (v : VersionView) (is : IsVersion v) (cut : KeySpan) (cut_is : IsSpan c
   levels_made k n (ts ∷ ls) are = λ i. level_made k n ts ls are i ∷ levels_made (k + 1) (n + parts_count cut ts) ls
       (levels_on k n ts ls are) i
 
-  all_levels_made : each_level (level_after v edit) 0 v.levels ≡ excised_levels cut first v.levels
+  pub all_levels_made : each_level (level_after v edit) 0 v.levels ≡ excised_levels cut first v.levels
   all_levels_made = levels_made 0 first v.levels (record {
     apart = is.apart;
     sorted = is.sorted;
@@ -137,7 +137,7 @@ module _ (v : VersionView) (is : IsVersion v) (cut : KeySpan) (cut_is : IsSpan c
       removed_are (λ m. has_virtual (flattened (excised_levels cut first v.levels)) m) v.backings n
       ∙ ap (λ b. has_backing v.backings n && not b) (levels_shown v is cut first n v.levels)
 
-  backings_made : backings_after v edit
+  pub backings_made : backings_after v edit
       ≡ filter (λ (b : CreatedItem). has_virtual (flattened (excised_levels cut first v.levels)) b.number)
       (all_placed created_below (carved cut v) v.backings)
   backings_made =

@@ -77,7 +77,7 @@ module _ (cut : KeySpan) (cut_is : IsSpan cut) where
         | false ↦ tt
       ]
 
-  left_stands : (t : TableView) (n : ℕ) → is_plain_view t.view ≡ true → AllByRecursion (StandsFor t) (left_of cut n t)
+  pub left_stands : (t : TableView) (n : ℕ) → is_plain_view t.view ≡ true → AllByRecursion (StandsFor t) (left_of cut n t)
   left_stands t n view =
       elim (overlap t.view.bounds cut) as (λ b. AllByRecursion (StandsFor t) (cond b (numbered_parts t n (remains t.view.bounds cut))
       (t ∷ []))) [

@@ -34,6 +34,11 @@ abbrev pub parts_count : KeySpan → List TableView → ℕ
 parts_count cut [] = 0
 parts_count cut (t ∷ ts) = length (parts_of cut t) + parts_count cut ts
 
+-- how many tables stand then in the place of these
+abbrev pub left_count : KeySpan → List TableView → ℕ
+left_count cut [] = 0
+left_count cut (t ∷ ts) = (if overlap t.view.bounds cut then length (remains t.view.bounds cut) else 1) + left_count cut ts
+
 -- numbered on in the order of the tables, left before right
 abbrev pub excised_tables : KeySpan → ℕ → List TableView → List TableView
 excised_tables cut first [] = []

@@ -3,3 +3,4 @@ pub mod Unused
 pub mod Planned
 pub mod Drafted
 pub mod Examples
+pub mod Allowed

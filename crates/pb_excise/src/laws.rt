@@ -1,16 +1,22 @@
 //! What holds of every excise. Each function does nothing: its contract is a law of the definitions.
-ghost use Rattle.std.specs.Prelude.{◌≡◌, ◌≤◌, ℕ, [], ◌∷◌, All, Contains};
+ghost use Rattle.std.specs.Prelude.{◌≡◌, ◌≤◌, ℕ, [], ◌∷◌, All, Contains, length, nat_le, if◌then◌else◌, Some, None};
+ghost use Rattle.pb_edit.specs.Edit.{VersionEdit};
 ghost use Rattle.pb_keys.specs.Map.{without};
-ghost use Rattle.pb_keys.specs.Span.{KeySpan, span_of};
+ghost use Rattle.pb_keys.specs.Span.{KeySpan, IsSpan, span_of};
 ghost use Rattle.pb_rows.specs.Layer.{KeyLayer};
 ghost use Rattle.pb_version.specs.Version.{VersionView, all_tables};
 ghost use Rattle.pb_version.specs.Meaning.{map_of};
+ghost use Rattle.pb_version.specs.Rules.{first_broken};
 ghost use Rattle.pb_version.specs.State.{IsVersion};
 ghost use Rattle.pb_version.specs.Stored.{stored_in};
 ghost use Rattle.pb_version.specs.Above.{AddsAbove};
 ghost use Rattle.pb_excise.specs.Excised.{excised, ShowsWhatStood};
+ghost use Rattle.pb_excise.specs.Planned.{with_count, IsExcise};
 ghost use Rattle.pb_excise.specs.Unused.{AreUnusedFrom};
+ghost use Rattle.pb_excise.specs.Allowed.{MayExcise, BreaksNoRule};
 ghost use Rattle.pb_excise.specs.Examples.{a, b, c, d, e, z, above, aa, bb, cc, dz, whole, part, backing, store, flushed};
+
+use pb_version::Broken;
 
 /// The map of what is left is the map without the span, whatever the backings stand for.
 pub fn excised_map()
@@ -33,6 +39,17 @@ pub fn an_excise_adds_above()
 /// Numbers that a version hasn't reserved yet are in no use.
 pub fn unreserved_numbers_are_unused()
     ensures { (v : VersionView) (first : ℕ) → IsVersion v → v.five.next ≤ first → AreUnusedFrom v first }
+{}
+
+/// The edit of an excise breaks no rule of a version that had its first edit, with any count that doesn't fall, where the numbers
+/// of the parts are reserved and in no use and at most 4,096 tables stand then.
+pub fn breaks_no_rule()
+    ensures { (v : VersionView) (cut : KeySpan) (first : ℕ) (edit : VersionEdit) → IsVersion v → IsSpan cut → IsExcise v cut first edit → BreaksNoRule v cut first edit }
+{}
+
+/// However many tables stand then, it breaks no rule but V9, and that one exactly where they are more than 4,096.
+pub fn too_many_alone()
+    ensures { (v : VersionView) (cut : KeySpan) (first accepted : ℕ) (edit : VersionEdit) → IsVersion v → IsSpan cut → IsExcise v cut first edit → MayExcise v cut first accepted → first_broken v (with_count accepted edit) ≡ (if nat_le (length (all_tables (excised v cut first))) 4096 then None else Some Broken.V9) }
 {}
 
 /// Excises computed: of a span inside a table, of all of it, beside it, and of its front; one after another; and of several

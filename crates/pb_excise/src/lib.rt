@@ -5,4 +5,4 @@ mod draft;
 pub mod laws;
 mod planned;
 
-pub use planned::{parts, plan};
+pub use planned::{parts, plan, tables_after};

@@ -1,7 +1,10 @@
 //! The edit of an excise.
-ghost use Rattle.std.specs.Prelude.{◌≡◌, ◌+◌, ◌^◌, ◌≤◌, length, IfOk};
+ghost use Rattle.std.specs.Prelude.{◌≡◌, ◌+◌, ◌^◌, ◌≤◌, ℕ, length, if◌then◌else◌, IfOk};
+ghost use Rattle.pb_keys.specs.Span.{overlap};
+ghost use Rattle.pb_span_cases.specs.Remainder.{remains};
 ghost use Rattle.pb_version.specs.Version.{all_tables};
-ghost use Rattle.pb_excise.specs.Excised.{parts_of, parts_count};
+ghost use Rattle.pb_excise.specs.Allowed.{BreaksNoRule};
+ghost use Rattle.pb_excise.specs.Excised.{parts_of, parts_count, left_count, excised};
 ghost use Rattle.pb_excise.specs.Unused.{AreUnusedFrom};
 ghost use Rattle.pb_excise.specs.Planned.{IsExcise};
 ghost use Rattle.pb_excise.specs.Drafted.{begun, with_levels};
@@ -47,12 +50,46 @@ fn parts_of(table: &Table, span: &Span) -> u64
     left.is_some() as u64 + right.is_some() as u64
 }
 
+/// How many tables stand after an excise of the span, whatever the number of its first part. It takes no memory.
+pub fn tables_after(version: &Version, span: &Span) -> u64
+    ensures { (first : ℕ) → result ≡ length (all_tables (excised version.now span.now first)) }
+{
+    // So the proof knows that there are seven levels, of few tables.
+    let _five = version.five();
+    let mut count = 0;
+    for level in 0..=LAST_LEVEL {
+        count += left_on(version.tables(level), span);
+    }
+    count
+}
+
+fn left_on(tables: &[Table], span: &Span) -> u64
+    requires { left_count span.now tables.now ≤ 2 ^ 62 }
+    ensures { result ≡ left_count span.now tables.now }
+{
+    let mut count = 0;
+    for table in tables {
+        count += left_of(table, span);
+    }
+    count
+}
+
+fn left_of(table: &Table, span: &Span) -> u64
+    ensures { result ≡ (if overlap table.now.view.bounds span.now then length (remains table.now.view.bounds span.now) else 1) }
+{
+    if table.view.bounds.overlaps(span) {
+        return parts_of(table, span);
+    }
+    1
+}
+
 /// The edit that takes the span out of a version: docs/MODEL.md, "Excise". The parts are numbered from `first` on. The edit has
 /// no count yet, and without one it may have no item at all.
 pub fn plan(alloc: Global, version: &Version, span: &Span, first: u64) -> Result<Edit, AllocError>
     requires numbers { first + parts_count span.now (all_tables version.now) ≤ 2 ^ 62 }
     requires unused { AreUnusedFrom version.now first }
     ensures ok { IfOk result (IsExcise version.now span.now first) }
+    ensures unbroken { IfOk result (BreaksNoRule version.now span.now first) }
 {
     // So the proof knows the forms of both.
     let _five = version.five();

@@ -7,7 +7,7 @@ ghost use Rattle.pb_block.specs.Cursors.{advanced, before_rows, is_before_row};
 
 use crate::entry::split_entry;
 use crate::key_room::KeyRoom;
-use crate::order::is_below;
+use crate::order::is_split_below;
 use std::marker::Model;
 
 /// Where a cursor stands to the row that it read last.
@@ -112,7 +112,7 @@ impl<'a> BlockCursor<'a> {
         requires { IsSome self.now.at }
         ensures { IfSome self.now.at (λ row. result ≡ is_before prefix.now suffix.now row.key) }
     {
-        is_below(self.key(), prefix, suffix)
+        is_split_below(self.key.as_slice(), self.key.split(), prefix, suffix)
     }
 
     /// Goes before the first of the rows to come whose key isn't below the one with these parts.

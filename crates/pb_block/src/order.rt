@@ -28,11 +28,19 @@ pub(crate) fn split_of(bytes: &[u8]) -> usize
 }
 
 /// Whether the key is below the one with these parts.
-#[tactic(auto, using(pb_keys::proofs::OrderFacts::compares))]
 pub(crate) fn is_below(key: &[u8], prefix: &[u8], suffix: &[u8]) -> bool
     ensures { result ≡ is_before prefix.now suffix.now key.now }
 {
-    let (own_prefix, own_suffix) = key.split_at(split_of(key));
+    is_split_below(key, split_of(key), prefix, suffix)
+}
+
+/// The same of a key whose suffix begins there.
+#[tactic(auto, using(pb_keys::proofs::OrderFacts::compares, pb_keys::proofs::KeyFacts::suffix_start_within))]
+pub(crate) fn is_split_below(key: &[u8], split: usize, prefix: &[u8], suffix: &[u8]) -> bool
+    requires { split ≡ suffix_start key.now }
+    ensures { result ≡ is_before prefix.now suffix.now key.now }
+{
+    let (own_prefix, own_suffix) = key.split_at(split);
     match own_prefix.cmp(&prefix) {
         Ordering::Less => true,
         Ordering::Equal => own_suffix < suffix,

@@ -1,8 +1,12 @@
 -- What each image of a folder says where a commit or a draw of the three steps fails.
-use Rattle.std.proofs.Common.{◌≡◌, ℕ, ◌+◌, ap, subst, arith, inl, inr}
+use Rattle.std.proofs.Common.{◌≡◌, ℕ, ◌+◌, Result, Ok, Err, ap, subst, arith, inl, inr}
 use Rattle.pb_devices.specs.Contents.{Contents, Folder, IsImage}
+use Rattle.pb_devices.specs.DiskCalls.{Stays}
+use Rattle.pb_devices.proofs.Kept.{stays_kept_at}
 use Rattle.pb_edit.specs.Edit.{VersionEdit}
-use Rattle.pb_manifest.specs.Manifest.{EachSays}
+use Rattle.pb_manifest.specs.Manifest.{EachManifest, EachSays, ManifestView, manifest_name}
+use Rattle.pb_manifest.proofs.Folders.{manifest_kept}
+use Rattle.pb_names.specs.Spelling.{current_name}
 use Rattle.pb_manifest.specs.Numbers.{OnlyReserves, with_next}
 use Rattle.pb_version.specs.Edited.{edited}
 use Rattle.pb_version.specs.Version.{VersionView}
@@ -39,3 +43,16 @@ draw_left first second number catalogue before after disk one two is only says f
         says = more;
       }
     ]
+
+-- ---- an answer that is no error
+
+pub never_err : {T E : Type 0} (value : T) (error : E) → ◌≡◌ {A = Result T E} (Ok value) (Err error) → ⊥
+never_err value error is = cc
+
+-- ---- behind a call that changes nothing
+
+pub still_kept : (manifest : ManifestView) (version : VersionView) (old new : Contents) → Stays old new → EachManifest manifest version old
+    → EachManifest manifest version new
+still_kept manifest version old new stays =
+    manifest_kept manifest version old new (stays_kept_at old new current_name (stays current_name))
+    (stays_kept_at old new (manifest_name manifest.number) (stays (manifest_name manifest.number)))

@@ -17,9 +17,14 @@ mod marker_stories;
 mod marker_tests;
 mod markers;
 #[cfg(test)]
+mod rotation_tests;
+#[cfg(test)]
 mod sweep;
 
 pub use disk::new_disk;
 pub use log::{appended, damaged, len_after, one_append, reopened};
-pub use manifest::{catalogue_made, committed, created, folder_reopened, make_file, three_steps};
+pub use manifest::{
+    catalogue_made, committed, committed_behind, created, drawn_and_committed, folder_reopened,
+    make_file, three_steps,
+};
 pub use markers::made;

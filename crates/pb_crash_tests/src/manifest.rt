@@ -1,9 +1,11 @@
-ghost use Rattle.std.specs.Prelude.{◌≡◌, ◌≤◌, ℕ, List, true, None, IfOk, IfSome, OnOk};
+ghost use Rattle.std.specs.Prelude.{◌≡◌, ◌+◌, ◌≤◌, ℕ, List, true, false, None, IfOk, IfSome, OnOk};
 ghost use Rattle.pb_crash_tests.specs.Driven.{IsUnmade, NeverStood};
 ghost use Rattle.pb_crash_tests.specs.Steps.{Says, SaysAfter, after_both, after_first};
 ghost use Rattle.pb_devices.specs.Contents.{Folder, IsImage, KeepsOthers};
+ghost use Rattle.pb_devices.specs.DiskCalls.{Stays};
 ghost use Rattle.pb_edit.specs.Grammar.{IsEdit};
 ghost use Rattle.pb_manifest.specs.Manifest.{EachManifest, IsNumbered, manifest_name};
+ghost use Rattle.pb_manifest.specs.Rotation.{is_mostly_history};
 
 use pb_devices::{Disk, Failed};
 use pb_edit::Edit;
@@ -44,6 +46,7 @@ pub fn created<D: Disk>(
     ensures kept { D.told ≡ true → IfOk result (λ made. EachManifest made.0 made.1 (D.contents disk.new)) }
     ensures version { IfOk result (λ made. made.1 ≡ after_first first.now) }
     ensures numbers { IfOk result (λ made. IsNumbered 1 2 4 made.0) }
+    ensures new { IfOk result (λ made. is_mostly_history made.0.log.len made.0.first ≡ false) }
 {
     let Ok(()) = disk.barrier() else {
         return Err(CommitError::Disk);
@@ -107,4 +110,59 @@ pub fn folder_reopened<D: Disk>(
     disk.barrier()?;
     let found = Manifest::open(alloc, disk)?;
     Ok(found)
+}
+
+/// Opens the manifest of a folder after a barrier, draws numbers and commits an edit. None where there is no manifest, or the file
+/// of the manifest that a rotation would make stands.
+pub fn committed_behind<D: Disk>(
+    alloc: Global,
+    disk: &mut D,
+    count: u64,
+    edit: &Edit,
+) -> Result<Option<(Manifest, Version)>, CommitError>
+    requires { IsEdit edit.now }
+    ensures { D.told ≡ true → IfOk result (λ found. IfSome found (λ made. EachManifest made.0 made.1 (D.contents disk.new))) }
+{
+    let Ok(Some((mut manifest, mut version))) = folder_reopened(alloc, disk) else {
+        return Ok(None);
+    };
+    if !drawn_and_committed(alloc, disk, &mut manifest, &mut version, count, edit)? {
+        return Ok(None);
+    }
+    Ok(Some((manifest, version)))
+}
+
+/// Draws numbers, asks for the file of the manifest that a rotation would make by one device call, and commits an edit. False,
+/// and nothing is committed, where that file stands.
+pub fn drawn_and_committed<D: Disk>(
+    alloc: Global,
+    disk: &mut D,
+    manifest: &mut Manifest,
+    version: &mut Version,
+    count: u64,
+    edit: &Edit,
+) -> Result<bool, CommitError>
+    requires edit { IsEdit edit.now }
+    requires kept { D.told ≡ true → EachManifest manifest.old version.old (D.contents disk.old) }
+    ensures kept { D.told ≡ true → OnOk result (EachManifest manifest.new version.new (D.contents disk.new)) }
+{
+    let first = manifest.draw(alloc, disk, version, count)?;
+    if is_taken(disk, first, count)? {
+        return Ok(false);
+    }
+    manifest.commit(alloc, disk, version, edit)?;
+    Ok(true)
+}
+
+/// Whether there is a manifest of the number behind so many from the first on: one device call.
+fn is_taken<D: Disk>(disk: &mut D, first: u64, count: u64) -> Result<bool, CommitError>
+    ensures free { D.told ≡ true → IfOk result (λ taken. taken ≡ false → (D.contents disk.new).seen (manifest_name (first + count)) ≡ None) }
+    ensures stays { D.told ≡ true → Stays (D.contents disk.old) (D.contents disk.new) }
+{
+    let Some(number) = first.checked_add(count) else {
+        return Ok(true);
+    };
+    let name = file(FileKind::Manifest, number);
+    let found = disk.len(name.as_str())?;
+    Ok(found.is_some())
 }

@@ -19,10 +19,10 @@ use std::process::Abort;
 use std::test::Fail;
 
 /// The edit of a new store: it accepted 0, reserves the numbers below 64, and has the log 3 and format 1.
-const FIRST: &[u8] = b"\x01\x00\x02\x40\x03\x03\x04\x00\x05\x01";
+pub(crate) const FIRST: &[u8] = b"\x01\x00\x02\x40\x03\x03\x04\x00\x05\x01";
 
 /// One command more was accepted.
-const SECOND: &[u8] = b"\x01\x01";
+pub(crate) const SECOND: &[u8] = b"\x01\x01";
 
 fn manifest_1() -> Name
     ensures { result ≡ manifest_name 1 }
@@ -34,7 +34,7 @@ fn catalogue_2() -> Name {
     file(FileKind::Catalogue, 2)
 }
 
-fn edit_of(rt: &impl Abort, alloc: Global, bytes: &[u8]) -> Result<Edit, Fail>
+pub(crate) fn edit_of(rt: &impl Abort, alloc: Global, bytes: &[u8]) -> Result<Edit, Fail>
     ensures { IfOk result IsEdit }
 {
     let edit = Edit::decode(alloc, bytes)?;
@@ -221,7 +221,12 @@ fn an_empty_folder_has_no_manifest(rt: HostRuntime) -> Result<(), Fail> {
 }
 
 // Three calls.
-fn put(rt: &impl Abort, disk: &mut MemDisk, name: Name, bytes: &[u8]) -> Result<(), Fail> {
+pub(crate) fn put(
+    rt: &impl Abort,
+    disk: &mut MemDisk,
+    name: Name,
+    bytes: &[u8],
+) -> Result<(), Fail> {
     assert_absent(rt, disk, name)?;
     make_file(disk, name, bytes)?;
     Ok(())
@@ -234,7 +239,7 @@ struct Damage {
     in_current: bool,
 }
 
-const NAMES: &[u8] = b"\x01\0\0\0\x02\x01\x02\0";
+pub(crate) const NAMES: &[u8] = b"\x01\0\0\0\x02\x01\x02\0";
 
 const SAYS: &[u8] = b"\x01\0\0\0\x0a\x01\x00\x02\x40\x03\x03\x04\x00\x05\x01\0";
 

@@ -34,7 +34,7 @@ pub(crate) trait Subject {
     ) -> Result<(), Fail>;
 }
 
-fn numbers(alloc: Global, first: u64, last: u64) -> Result<Vec<u64>, AllocError> {
+pub(crate) fn numbers(alloc: Global, first: u64, last: u64) -> Result<Vec<u64>, AllocError> {
     let mut calls = Vec::new(alloc);
     for call in first..=last {
         calls.push(call)?;

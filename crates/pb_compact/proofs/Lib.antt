@@ -11,3 +11,17 @@ pub mod TogetherLaws
 pub mod FilledOutputs
 pub mod FewOutputs
 pub mod FullOutputs
+pub mod Members
+pub mod Overlaps
+pub mod Says
+pub mod Chosen
+pub mod Fitting
+pub mod LevelsAfter
+pub mod Judging
+pub mod Written
+pub mod MapKept
+pub mod Leaves
+pub mod Rules
+pub mod Left
+pub mod Choosing
+pub mod JudgedAtOnce

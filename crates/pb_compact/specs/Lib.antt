@@ -1,3 +1,5 @@
 pub mod Outputs
 pub mod Cutting
 pub mod Laws
+pub mod Chosen
+pub mod Compacted

@@ -12,6 +12,13 @@ ghost use Rattle.pb_rows.specs.Verdict.{verdict, verdicts};
 
 use super::points::FULL_OUTPUT;
 
+mod compacting;
+
+pub use compacting::{
+    a_compaction_breaks_no_rule, adding_above_keeps_it_fit, compacted_keeps_the_map,
+    no_input_is_left, what_is_chosen_fits,
+};
+
 /// The outputs of a layer say of each key what the layer says, in any order.
 pub fn outputs_say_the_same()
     ensures says { (layer : KeyLayer) (key : List ℕ) → IsLayer layer → verdicts (outputs_of layer) key ≡ verdict layer key }

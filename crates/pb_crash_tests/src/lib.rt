@@ -17,6 +17,8 @@ mod marker_stories;
 mod marker_tests;
 mod markers;
 #[cfg(test)]
+mod rotation_sweep;
+#[cfg(test)]
 mod rotation_tests;
 #[cfg(test)]
 mod sweep;

@@ -16,9 +16,9 @@ invariant-loop-number l = All IsShortRow l.rows.items
 """
 
 
-def lines():
+def lines(source):
     """The lines of crates.txt, each with the names in it."""
-    with open(os.path.join(TOP, "crates.txt")) as file:
+    with open(os.path.join(source, "crates.txt")) as file:
         return {line.split(":")[0]: line for line in file if ":" in line.partition("#")[0]}
 
 
@@ -38,16 +38,24 @@ def write(path, text):
         file.write(text)
 
 
-def build(folder, name, libraries, program, proofs):
-    """The built program of this text, with its proof files by their paths."""
-    listed = lines()
+def commit_tree(commit, folder):
+    """The crates of a commit, to build a program over."""
+    os.makedirs(folder, exist_ok=True)
+    archive = subprocess.run(["git", "archive", commit, "crates", "crates.txt"], cwd=TOP, check=True, stdout=subprocess.PIPE)
+    subprocess.run(["tar", "x", "-C", folder], input=archive.stdout, check=True)
+    return folder
+
+
+def build(folder, name, libraries, program, proofs, source=TOP):
+    """The built program of this text over the crates of the source, with its proof files by their paths."""
+    listed = lines(source)
     crates = below(listed, libraries)
     for crate in crates:
         for part in PARTS:
             there = os.path.join(folder, "crates", crate, part)
             shutil.rmtree(there, ignore_errors=True)
-            if os.path.isdir(os.path.join(TOP, "crates", crate, part)):
-                shutil.copytree(os.path.join(TOP, "crates", crate, part), there)
+            if os.path.isdir(os.path.join(source, "crates", crate, part)):
+                shutil.copytree(os.path.join(source, "crates", crate, part), there)
     kept = "".join(listed[crate] for crate in crates)
     write(os.path.join(folder, "crates.txt"), f"{kept}{name}: {' '.join(libraries)}\n")
     shutil.copy(os.path.join(TOP, "HANDLES"), folder)

@@ -141,6 +141,7 @@ fn manifest_len(disk: &mut HostDisk, number: u64) -> Option<u64> {
     len
 }
 
+#[derive(Drop)]
 struct Store {
     disk: HostDisk,
     manifest: Manifest,

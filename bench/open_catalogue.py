@@ -6,15 +6,11 @@ Prints the rounds, and the ratio of the best of each.
 
 The program stands over copies of the crates in a folder of its own, since it belongs to nothing that is released. Its first build
 proves these crates, so a FOLDER that is kept saves minutes."""
-import os
-import re
-import shutil
-import subprocess
 import sys
 import tempfile
 
-TOP = os.path.dirname(os.path.dirname(os.path.abspath(__file__)))
-CRATES = ["pb_bytes", "pb_devices", "pb_keys", "pb_names", "pb_mem", "pb_payloads", "pb_gate_log", "pb_catalog"]
+from built import best, build, numbers
+
 ROUNDS = 9
 TIMES = 20
 PROGRAM = """//! Times openings of catalogues.
@@ -98,44 +94,13 @@ fn main(rt: HostRuntime) -> io::Result<()> {
 """
 
 
-def write(path, text):
-    os.makedirs(os.path.dirname(path), exist_ok=True)
-    with open(path, "w") as file:
-        file.write(text)
-
-
-def copy_tree(folder):
-    for crate in CRATES:
-        for part in ("src", "specs", "proofs"):
-            there = os.path.join(folder, "crates", crate, part)
-            shutil.rmtree(there, ignore_errors=True)
-            shutil.copytree(os.path.join(TOP, "crates", crate, part), there)
-    with open(os.path.join(TOP, "crates.txt")) as file:
-        kept = [line for line in file if line.split(":")[0] in CRATES]
-    write(os.path.join(folder, "crates.txt"), "".join(kept) + "catalogue_bench: pb_catalog pb_mem pb_devices pb_names\n")
-    shutil.copy(os.path.join(TOP, "HANDLES"), folder)
-
-
-def build(folder):
-    copy_tree(folder)
-    home = os.path.join(folder, "crates", "catalogue_bench")
-    write(os.path.join(home, "src", "main.rt"), PROGRAM.replace("TIMES", str(TIMES)))
-    subprocess.run(["rt", "run"], cwd=home, check=True, stdout=subprocess.DEVNULL)
-    return os.path.join(home, "out", "catalogue_bench")
-
-
-def run(program):
-    printed = subprocess.run([program], check=True, stdout=subprocess.PIPE, text=True).stdout
-    return [int(word) for word in re.findall(r"\d+", printed)]
-
-
 def main():
     folder = sys.argv[1] if len(sys.argv) > 1 else tempfile.mkdtemp()
-    program = build(folder)
-    rounds = [run(program) for _ in range(ROUNDS)]
+    program = build(folder, "catalogue_bench", ["pb_catalog", "pb_mem", "pb_devices", "pb_names"], PROGRAM.replace("TIMES", str(TIMES)), {})
+    rounds = [numbers(program) for _ in range(ROUNDS)]
     for few, few_entries, many, many_entries in rounds:
         print(f"{few / TIMES:.0f} us of {few_entries} entries, {many / TIMES:.0f} us of {many_entries}")
-    few, many = (min(round[at] for round in rounds) for at in (0, 2))
+    few, _, many, _ = best(rounds)
     print(f"an opening of 4,096 entries takes {many / few:.2f} of one of 1,024")
 
 

@@ -15,8 +15,8 @@ import subprocess
 import sys
 import tempfile
 
-TOP = os.path.dirname(os.path.dirname(os.path.abspath(__file__)))
-CRATES = ["pb_keys", "pb_names", "pb_script"]
+from built import TOP, build, write
+
 READING = ["src/lines.rt", "specs/Lines.antt", "proofs/FaultLines.antt", "proofs/lines"]
 LENGTHS = {"plain": 16_777_210, "commented": 16_777_215}
 PROGRAM = """//! Times the parse of a script beside a plain pass over its bytes, and the program's reading beside the parse.
@@ -140,22 +140,7 @@ fn main(rt: HostRuntime) -> io::Result<()> {
 """
 
 
-def write(path, text):
-    os.makedirs(os.path.dirname(path), exist_ok=True)
-    with open(path, "w") as file:
-        file.write(text)
-
-
-def build(folder):
-    for crate in CRATES:
-        for part in ("src", "specs", "proofs"):
-            there = os.path.join(folder, "crates", crate, part)
-            shutil.rmtree(there, ignore_errors=True)
-            shutil.copytree(os.path.join(TOP, "crates", crate, part), there)
-    with open(os.path.join(TOP, "crates.txt")) as file:
-        kept = [line for line in file if line.split(":")[0] in CRATES]
-    write(os.path.join(folder, "crates.txt"), "".join(kept) + "pebble_cli: pb_keys pb_names pb_script\n")
-    shutil.copy(os.path.join(TOP, "HANDLES"), folder)
+def built(folder):
     home = os.path.join(folder, "crates", "pebble_cli")
     shutil.rmtree(os.path.join(home, "proofs"), ignore_errors=True)
     for part in READING:
@@ -163,11 +148,7 @@ def build(folder):
         os.makedirs(os.path.dirname(there), exist_ok=True)
         (shutil.copytree if os.path.isdir(here) else shutil.copy)(here, there)
     write(os.path.join(home, "specs", "Lib.antt"), "pub mod Lines\n")
-    write(os.path.join(home, "proofs", "Lib.antt"), "pub mod FaultLines\n")
-    write(os.path.join(home, "src", "main.rt"), PROGRAM)
-    # A word, so that what is run here to the end of the build is the short run.
-    subprocess.run(["rt", "run", "--", "build"], cwd=home, check=True, stdout=subprocess.DEVNULL)
-    return os.path.join(home, "out", "pebble_cli")
+    return build(folder, "pebble_cli", ["pb_keys", "pb_names", "pb_script"], PROGRAM, {"Lib.antt": "pub mod FaultLines\n"})
 
 
 def run(program, *words):
@@ -182,7 +163,7 @@ def run(program, *words):
 
 def main():
     folder = sys.argv[1] if len(sys.argv) > 1 else tempfile.mkdtemp()
-    program = build(folder)
+    program = built(folder)
     for script, length in LENGTHS.items():
         _, without = run(program, script, "pass")
         for call in ("parse", "parse_numbered"):

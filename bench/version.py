@@ -9,13 +9,12 @@ With a commit BEFORE, a program over the crates of that commit is timed too, its
 (tables of level 6) is left out. The programs stand over copies of the crates in a folder of their own, since they belong to nothing that
 is released. Their first build proves these crates, so a FOLDER that is kept saves minutes."""
 import os
-import shutil
-import subprocess
 import sys
 import tempfile
 
-TOP = os.path.dirname(os.path.dirname(os.path.abspath(__file__)))
-CRATES = ["pb_bytes", "pb_keys", "pb_span_cases", "pb_rows", "pb_edit", "pb_version"]
+from built import TOP, best, build, commit_tree, numbers
+
+LIBRARIES = ["pb_bytes", "pb_keys", "pb_edit", "pb_version"]
 ROUNDS = 9
 COUNTS = [1024, 2048, 4096]
 PROGRAM = """//! Times edits and copies of versions.
@@ -218,58 +217,27 @@ fn main(rt: HostRuntime) -> io::Result<()> {
 }
 """
 PROOF = """use Rattle.std.proofs.Common.{length}
-use Rattle.version_bench.proofs.+are_physical.Given as goal
+use Rattle.NAME.proofs.+are_physical.Given as goal
 
 abbrev pub decreases-are_physical : goal.decreases-are_physical
 decreases-are_physical l = length l.physical.now
 """
 
 
-def write(path, text):
-    os.makedirs(os.path.dirname(path), exist_ok=True)
-    with open(path, "w") as file:
-        file.write(text)
-
-
-def copy_tree(source, folder):
-    for crate in CRATES:
-        for part in ("src", "specs", "proofs"):
-            there = os.path.join(folder, "crates", crate, part)
-            shutil.rmtree(there, ignore_errors=True)
-            if os.path.isdir(os.path.join(source, "crates", crate, part)):
-                shutil.copytree(os.path.join(source, "crates", crate, part), there)
-    with open(os.path.join(source, "crates.txt")) as file:
-        kept = [line for line in file if line.split(":")[0] in CRATES]
-    write(os.path.join(folder, "crates.txt"), "".join(kept) + "version_bench: pb_bytes pb_keys pb_edit pb_version\n")
-    shutil.copy(os.path.join(TOP, "HANDLES"), folder)
-
-
-def build(source, folder):
-    copy_tree(source, folder)
-    home = os.path.join(folder, "crates", "version_bench")
-    write(os.path.join(home, "src", "main.rt"), PROGRAM)
-    write(os.path.join(home, "proofs", "+are_physical", "Invariants.antt"), PROOF)
-    subprocess.run(["rt", "run"], cwd=home, check=True, stdout=subprocess.DEVNULL)
-    return os.path.join(home, "out", "version_bench")
-
-
-def commit_tree(commit, folder):
-    os.makedirs(folder, exist_ok=True)
-    archive = subprocess.run(["git", "archive", commit, "crates", "crates.txt"], cwd=TOP, check=True, stdout=subprocess.PIPE)
-    subprocess.run(["tar", "x", "-C", folder], input=archive.stdout, check=True)
+def built(folder, source):
+    return build(folder, "version_bench", LIBRARIES, PROGRAM, {"+are_physical/Invariants.antt": PROOF}, source)
 
 
 def run(program):
     """The microseconds of each row: all tables at once, one for another, a copy; and how many tables the copy has."""
-    printed = subprocess.run([program], check=True, stdout=subprocess.PIPE, text=True).stdout
-    figures = [int(line) for line in printed.split()]
+    figures = numbers(program)
     rows = [figures[at : at + 4] for at in range(0, len(figures), 4)]
     names = [(level, count) for level in (0, 6) for count in COUNTS]
     return {name: [it / 1000 for it in row[:3]] for name, row in zip(names, rows) if row[3] == name[1]}
 
 
-def best(rounds):
-    return {name: [min(round[name][at] for round in rounds) for at in range(3)] for name in rounds[0]}
+def least(rounds):
+    return {name: best(round[name] for round in rounds) for name in rounds[0]}
 
 
 def say(name, rows):
@@ -286,22 +254,21 @@ def ratios(rows, others):
 
 def main():
     folder = sys.argv[1] if len(sys.argv) > 1 else tempfile.mkdtemp()
-    program = build(TOP, os.path.join(folder, "now"))
+    program = built(os.path.join(folder, "now"), TOP)
     before = None
     if len(sys.argv) > 2:
-        commit_tree(sys.argv[2], os.path.join(folder, "tree"))
-        before = build(os.path.join(folder, "tree"), os.path.join(folder, "before"))
+        before = built(os.path.join(folder, "before"), commit_tree(sys.argv[2], os.path.join(folder, "tree")))
     now, then = [], []
     for _ in range(ROUNDS):
         now.append(run(program))
         if before:
             then.append(run(before))
-    now = best(now)
+    now = least(now)
     say("now", now)
     shallow, deep = ([now[level, count] for count in COUNTS] for level in (0, 6))
     print(f"level 6 over level 0: {ratios(deep, shallow)}")
     if before:
-        then = best(then)
+        then = least(then)
         say("before", then)
         print(f"level 0 over before: {ratios(shallow, [then[0, count] for count in COUNTS])}")
 

@@ -1,0 +1,13 @@
+use Rattle.pb_store.specs.Devices.{Devices, devices_of}
+use Rattle.pb_store.proofs.Moves.{moves_locally, reads_locally}
+use Rattle.pb_store.proofs.laws.reading_moves.Goals as goal
+
+pub returns : goal.returns
+returns g c = λ old new a call reading ready kept same fewer objects.
+    let before : Devices =
+    (devices_of (g.D.Disk.contents c.args.old_disk.now) (g.B.Bucket.objects c.args.old_bucket.now) (g.D.Disk.fault_count c.args.old_disk.now)
+    (g.B.Bucket.fault_count c.args.old_bucket.now) (g.B.Bucket.call_count c.args.old_bucket.now)) in
+    let after : Devices =
+    (devices_of (g.D.Disk.contents c.args.new_disk.now) (g.B.Bucket.objects c.args.new_bucket.now) (g.D.Disk.fault_count c.args.new_disk.now)
+    (g.B.Bucket.fault_count c.args.new_bucket.now) (g.B.Bucket.call_count c.args.new_bucket.now)) in
+    moves_locally old new a before after call reading (reads_locally old new before after ready kept same fewer objects)

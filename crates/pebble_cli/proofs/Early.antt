@@ -15,29 +15,30 @@ pub task_long : (bytes : List ℕ) → max_script < length bytes → too_long �
 task_long bytes long = sym (cond-true (nat_lt max_script (length bytes)) too_long (task_of_script bytes (fault_line bytes)) (grind (arith, nat_tests, long)))
 
 pub memory_of_script : (bytes : List ℕ) (fault : Option ℕ) → Ends (task_of_script bytes fault) Memory []
-memory_of_script bytes None = record { due = inr (inl tt); each_mark = tt; named = tt; every_line = λ whole. absurd whole }
-memory_of_script bytes (Some number) = record { due = inr (inr refl); each_mark = tt; named = tt; every_line = λ whole. absurd whole }
+memory_of_script bytes None = record { due = inr (inl tt); each_mark = λ maps. tt; named = tt; every_line = λ whole. absurd whole }
+memory_of_script bytes (Some number) = record { due = inr (inr refl); each_mark = λ maps. tt; named = tt; every_line = λ whole. absurd whole }
 
 pub memory_of_source : (bytes : List ℕ) (long : Bool) → Ends (cond long too_long (task_of_script bytes (fault_line bytes))) Memory []
-memory_of_source bytes true = record { due = inr (inr refl); each_mark = tt; named = tt; every_line = λ whole. absurd whole }
+memory_of_source bytes true = record { due = inr (inr refl); each_mark = λ maps. tt; named = tt; every_line = λ whole. absurd whole }
 memory_of_source bytes false = memory_of_script bytes (fault_line bytes)
 
 pub memory_of_words : (bytes : List ℕ) (asks : Bool) → Ends (cond asks (task_of_source bytes) usage) Memory []
 memory_of_words bytes true = memory_of_source bytes (nat_lt max_script (length bytes))
-memory_of_words bytes false = record { due = inr refl; each_mark = tt; named = tt; every_line = λ whole. absurd whole }
+memory_of_words bytes false = record { due = inr refl; each_mark = λ maps. tt; named = tt; every_line = λ whole. absurd whole }
 
 read_of_script : (bytes : List ℕ) (fault : Option ℕ) → Ends (task_of_script bytes fault) Read []
-read_of_script bytes None = record { due = inr (inr refl); each_mark = tt; named = tt; every_line = λ whole. absurd whole }
-read_of_script bytes (Some number) = record { due = inr (inl refl); each_mark = tt; named = tt; every_line = λ whole. absurd whole }
+read_of_script bytes None = record { due = inr (inr refl); each_mark = λ maps. tt; named = tt; every_line = λ whole. absurd whole }
+read_of_script bytes (Some number) = record { due = inr (inl refl); each_mark = λ maps. tt; named = tt; every_line = λ whole. absurd whole }
 
 pub read_of_source : (bytes : List ℕ) (long : Bool) → Ends (cond long too_long (task_of_script bytes (fault_line bytes))) Read []
-read_of_source bytes true = record { due = inr (inl refl); each_mark = tt; named = tt; every_line = λ whole. absurd whole }
+read_of_source bytes true = record { due = inr (inl refl); each_mark = λ maps. tt; named = tt; every_line = λ whole. absurd whole }
 read_of_source bytes false = read_of_script bytes (fault_line bytes)
 
 pub memory_prints : (task : Task) (before : List ℕ) (faults : ℕ) → Prints task Memory [] before before faults faults
 memory_prints task before faults = record {
   whole = λ whole. absurd whole;
   part = λ _. no_part before (text_of task []) before refl;
+  stops = λ is. cc;
   text = λ text. absurd text;
   none = λ is. cc;
 }
@@ -46,6 +47,7 @@ pub read_prints : (task : Task) (before : List ℕ) (faults : ℕ) → Prints ta
 read_prints task before faults = record {
   whole = λ whole. absurd whole;
   part = λ cut. absurd cut;
+  stops = λ is. cc;
   text = λ text. absurd text;
   none = λ _. refl;
 }

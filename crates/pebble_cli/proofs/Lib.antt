@@ -6,6 +6,15 @@ pub mod SetFacts
 pub mod LoggedFacts
 pub mod StoreFacts
 pub mod StepFacts
+pub mod Alone
+pub mod Moves
+pub mod OpenMoves
+pub mod StepMoves
+pub mod Machine
+pub mod ActFacts
+pub mod Found
+pub mod Follows
+pub mod Left
 pub mod StatusFacts
 pub mod Counting
 pub mod Progress

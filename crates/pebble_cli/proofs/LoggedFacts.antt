@@ -12,7 +12,7 @@ use Rattle.pb_gate_log.specs.Payloads.{HasList, payloads_in}
 use Rattle.pebble_cli.specs.Settings.{Set, IsSet, payload_of}
 use Rattle.pb_keys.specs.Map.{Map}
 use Rattle.pebble_cli.specs.Store.{Held, with_pair}
-use Rattle.pebble_cli.specs.Folder.{log_name, KeepsLog, LeavesHeld, Make}
+use Rattle.pebble_cli.specs.Folder.{log_name, KeepsLog, LeavesHeld, Replays}
 use Rattle.pebble_cli.proofs.SetFacts.{make_more}
 
 -- nothing was appended
@@ -55,9 +55,9 @@ logged held new payload key value old disk keeps file count map spelled is each 
       file = file ∙ keeps.file;
       list = keeps.list ++ payload ∷ [];
       log = each;
-      makes = subst (λ (p : List ℕ). Make (keeps.list ++ p ∷ []) new.count new.map) (sym spelled)
-          (subst (λ (n : ℕ). Make (keeps.list ++ payload_of (next_set held key value) ∷ []) n new.map) (sym count)
-          (subst (λ (m : Map). Make (keeps.list ++ payload_of (next_set held key value) ∷ []) (held.count + 1) m) (sym map) made));
+      makes = subst (λ (p : List ℕ). Replays (keeps.list ++ p ∷ []) new.count new.map) (sym spelled)
+          (subst (λ (n : ℕ). Replays (keeps.list ++ payload_of (next_set held key value) ∷ []) n new.map) (sym count)
+          (subst (λ (m : Map). Replays (keeps.list ++ payload_of (next_set held key value) ∷ []) (held.count + 1) m) (sym map) made));
     }
 
 pub left_logged : (held : Held) (payload key value : List ℕ) (old : Contents) (image : Option (List ℕ)) → (keeps : KeepsLog held old) → payload ≡ payload_of (next_set held key value) → IsSet (next_set held key value)
@@ -65,8 +65,8 @@ pub left_logged : (held : Held) (payload key value : List ℕ) (old : Contents) 
     → IsBeforeOrAfter (LeavesHeld image) held (with_pair held key value)
 left_logged held payload key value old image keeps spelled is left =
     elim left [
-      | inl has ↦ inl (subst (λ (l : List (List ℕ)). Make l held.count held.map) (sym (has_payloads keeps.list image has)) keeps.makes)
-      | inr has ↦ inr (subst (λ (l : List (List ℕ)). Make l (held.count + 1) (insert held.map key value))
+      | inl has ↦ inl (subst (λ (l : List (List ℕ)). Replays l held.count held.map) (sym (has_payloads keeps.list image has)) keeps.makes)
+      | inr has ↦ inr (subst (λ (l : List (List ℕ)). Replays l (held.count + 1) (insert held.map key value))
           (sym (has_payloads (keeps.list ++ payload ∷ []) image has ∙ ap (λ p. keeps.list ++ p ∷ []) spelled))
           (make_more keeps.list held.count held.map key value keeps.makes is))
     ]
@@ -79,8 +79,8 @@ left_held held self payload key value old image same keeps spelled is left =
     (left_logged held payload key value old image keeps spelled is left)
 
 -- an open store holds what each image stands for
-pub open_image : (held : Held) (disk : Contents) (image : Option (List ℕ)) → KeepsLog held disk → MayLeave disk log_name image → Make (payloads_in image) held.count held.map
+pub open_image : (held : Held) (disk : Contents) (image : Option (List ℕ)) → KeepsLog held disk → MayLeave disk log_name image → Replays (payloads_in image) held.count held.map
 open_image held disk image keeps left =
-    subst (λ (l : List (List ℕ)). Make l held.count held.map)
+    subst (λ (l : List (List ℕ)). Replays l held.count held.map)
     (sym (has_payloads keeps.list image (each_has held.log keeps.list disk keeps.log image (subst (λ (name : List ℕ). MayLeave disk name image) (sym keeps.file) left))))
     keeps.makes

@@ -1,12 +1,12 @@
 -- Commands in a log: what one more makes of them, and that payloads spell one list of commands at most.
-use Rattle.std.proofs.Common.{◌≡◌, ℕ, suc, get_or, take, drop, drop-cons, ◌+◌, ◌-◌, ◌<◌, ◌≤◌, ◌^◌, true, if◌then◌else◌, List, [], ◌∷◌, ◌++◌, map, length, Option, Some, None, refl, sym, ◌∙◌, subst, ap, arith, append-nil}
+use Rattle.std.proofs.Common.{◌≡◌, ℕ, suc, get_or, take, drop, drop-cons, ◌+◌, ◌-◌, ◌<◌, ◌≤◌, ◌^◌, List, [], ◌∷◌, ◌++◌, map, length, refl, sym, ◌∙◌, subst, ap, arith, append-nil}
 use Rattle.std.proofs.lemmas.List.{map-append, take-append-drop}
 use Rattle.std.specs.List.{AllByRecursion}
 use Rattle.std.specs.FinMap.{empty, insert}
 use Rattle.pb_bytes.specs.Varint.{field}
 use Rattle.pb_bytes.proofs.ReadingLemmas.{one_field}
 use Rattle.pebble_cli.specs.Settings.{Set, IsSet, Rises, AreSets, payload_of, map_after, count_after}
-use Rattle.pebble_cli.specs.Folder.{Make, IsRead}
+use Rattle.pebble_cli.specs.Folder.{Replays, IsRead}
 use Rattle.pb_keys.specs.Map.{Map}
 use Rattle.pebble_cli.proofs.SettingFacts.{same_count, name_short}
 
@@ -48,7 +48,7 @@ same_sets (a ∷ xs) (b ∷ ys) each other e =
     ∙ ap (λ ss. b ∷ ss) (same_sets xs ys each.1 other.1 (tail_of (payload_of a) (payload_of b) (map payload_of xs) (map payload_of ys) e))
 
 -- payloads make one count and map at most
-pub one_make : (list : List (List ℕ)) (n k : ℕ) (m l : Map) → Make list n m → Make list k l → (n ≡ k) × (m ≡ l)
+pub one_make : (list : List (List ℕ)) (n k : ℕ) (m l : Map) → Replays list n m → Replays list k l → (n ≡ k) × (m ≡ l)
 one_make list n k m l a b =
     let same = same_sets a.sets b.sets a.are.each b.are.each (sym a.are.spelled ∙ b.are.spelled) in
     (a.count ∙ ap (count_after 0) same ∙ sym b.count, a.map ∙ ap (map_after empty) same ∙ sym b.map)
@@ -103,7 +103,7 @@ are_more sets set list are is above = record {
 }
 
 -- with one command more the count is one more
-pub make_more : (list : List (List ℕ)) (n : ℕ) (m : Map) (key value : List ℕ) → Make list n m → IsSet (record { count = n + 1; key = key; value = value }) → Make (list ++ payload_of (record { count = n + 1; key = key; value = value }) ∷ []) (n + 1) (insert m key value)
+pub make_more : (list : List (List ℕ)) (n : ℕ) (m : Map) (key value : List ℕ) → Replays list n m → IsSet (record { count = n + 1; key = key; value = value }) → Replays (list ++ payload_of (record { count = n + 1; key = key; value = value }) ∷ []) (n + 1) (insert m key value)
 make_more list n m key value make is =
     let set : Set = record { count = n + 1; key = key; value = value } in
     record {
@@ -135,7 +135,7 @@ read_more list payload least n old new so_far read =
       map = read.map ∙ ap (λ before. insert before read.key read.value) so_far.map ∙ sym (map_more empty so_far.sets set);
     }
 
-pub read_all : (list : List (List ℕ)) (least : ℕ) (m : Map) → ReadTo list least m → Make list (least - 1) m
+pub read_all : (list : List (List ℕ)) (least : ℕ) (m : Map) → ReadTo list least m → Replays list (least - 1) m
 read_all list least m so_far = record {
   sets = so_far.sets;
   are = so_far.are;
@@ -174,14 +174,14 @@ next (a ∷ b ∷ sets) (c ∷ d ∷ other) payload rest each is rises e =
     next (b ∷ sets) (d ∷ other) payload rest each.1 is.1 rises.1
     (tail_of (payload_of a) (payload_of c) (map payload_of (b ∷ sets) ++ payload ∷ rest) (map payload_of (d ∷ other)) e)
 
-pub read_next : (list : List (List ℕ)) (payload : List ℕ) (rest : List (List ℕ)) (least n : ℕ) (m l : Map) → ReadTo list least m → Make (list ++ payload ∷ rest) n l → Next payload least
+pub read_next : (list : List (List ℕ)) (payload : List ℕ) (rest : List (List ℕ)) (least n : ℕ) (m l : Map) → ReadTo list least m → Replays (list ++ payload ∷ rest) n l → Next payload least
 read_next list payload rest least n m l so_far make =
     subst (Next payload) (sym so_far.bound)
     (next so_far.sets make.sets payload rest so_far.are.each make.are.each make.are.rises
     (ap (λ front. front ++ payload ∷ rest) (sym so_far.are.spelled) ∙ make.are.spelled))
 
-pub next_from : (list : List (List ℕ)) (payload : List ℕ) (i least n : ℕ) (m l : Map) → i < length list → payload ≡ get_or list i payload → ReadTo (take i list) least m → Make list n l → Next payload least
+pub next_from : (list : List (List ℕ)) (payload : List ℕ) (i least n : ℕ) (m l : Map) → i < length list → payload ≡ get_or list i payload → ReadTo (take i list) least m → Replays list n l → Next payload least
 next_from list payload i least n m l within is so_far make =
     read_next (take i list) payload (drop (suc i) list) least n m l so_far
-    (subst (λ (whole : List (List ℕ)). Make whole n l)
+    (subst (λ (whole : List (List ℕ)). Replays whole n l)
     (sym (take-append-drop i list) ∙ ap (λ back. take i list ++ back) (drop-cons list i payload within ∙ ap (λ p. p ∷ drop (suc i) list) (sym is))) make)

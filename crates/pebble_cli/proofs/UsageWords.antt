@@ -1,5 +1,5 @@
 -- What `clap` makes of the words of the usage.
-use Rattle.std.proofs.Common.{◌≡◌, ◌≢◌, ◌⊎◌, inl, inr, ap₂, Result, Ok, Err, IfOk, MatchResult, ℕ, Bool, true, false, ◌==◌, List, [], ◌∷◌, ◌++◌, Option, Some, None, codes, refl, sym, ap, ◌∙◌, subst}
+use Rattle.std.proofs.Common.{◌≡◌, ◌≢◌, inl, inr, ap₂, Result, Ok, Err, IfOk, MatchResult, Bool, true, false, List, [], ◌∷◌, Option, Some, None, codes, refl, sym, ap, ◌∙◌, subst}
 use Rattle.std.specs.Str.{bytes_eq}
 use Rattle.std.proofs.lemmas.Bool.{false≢true, or_parts}
 use Rattle.std.proofs.lemmas.Slice.Eq.{bytes_eq-Decides}
@@ -15,7 +15,7 @@ use Rattle.std.specs.declared.alloc.AllocError.{AllocError}
 use Rattle.clap.specs.Words.{AddsSubcommand, HasKind, IsAmong, app_of, kind_of, App, Rule, Text, new_app, with_subcommand, built, fault_of, is_simple_and_free, Kinds}
 use Rattle.clap.specs.Simple.{Shape, app_of_fields, new_shape, on_top, names_of, built_leaf, built_above, inherited}
 use Rattle.clap.specs.Walk.{Names, Held, Step, Walk, walk, walk_from, walked, nothing_held, subcommand_met, subcommand_or_other, long_or_other, short_or_plain, word_met, arg_by_index, idle, value, trailing}
-use Rattle.clap.specs.Faults.{walk_fault, turn_fault, word_fault, other_fault, flag_word_fault, bundle_fault, step_fault, positional_fault, stray_fault, entered_fault, level_fault, built_fault}
+use Rattle.clap.specs.Faults.{walk_fault, word_fault, other_fault, flag_word_fault, bundle_fault, step_fault, positional_fault, stray_fault, entered_fault}
 use Rattle.clap.specs.Kinds.{or_else}
 use Rattle.clap.specs.declared.error.kind.ErrorKind.TheVariants as kind
 use Rattle.clap.proofs.OnLiterals.{clap_on_literals}

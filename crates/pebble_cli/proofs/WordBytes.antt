@@ -1,5 +1,5 @@
 -- The bytes of a name are text.
-use Rattle.std.proofs.Common.{◌≡◌, ℕ, ◌<◌, List, IsUtf8, arith}
+use Rattle.std.proofs.Common.{ℕ, ◌<◌, List, IsUtf8, arith}
 use Rattle.std.specs.Str.{IsAscii}
 use Rattle.std.proofs.lemmas.Bool.Decides.{nat_tests}
 use Rattle.std.proofs.lemmas.Str.{IsUtf8-from_ascii}

@@ -1,5 +1,5 @@
 -- What the folder of a store stands for: a count and a map.
-use Rattle.std.specs.Prelude.{◌≡◌, ℕ, ◌≤◌, List, [], Option, Some, None}
+use Rattle.std.specs.Prelude.{◌≡◌, ℕ, ◌≤◌, List, Option}
 use Rattle.std.specs.FinMap.{empty, insert}
 use Rattle.pb_devices.specs.Contents.{Contents, Folder, MayLeave}
 use Rattle.pb_gate_log.specs.EachLog.{EachLog}
@@ -15,7 +15,7 @@ abbrev pub log_name : List ℕ
 log_name = file_name Log 3
 
 -- these payloads are commands, which make this count and map
-pub record Make (list : List (List ℕ)) (n : ℕ) (m : Map) : Type 0 where
+pub record Replays (list : List (List ℕ)) (n : ℕ) (m : Map) : Type 0 where
   pub sets : List Set
   pub are : AreSets sets list
   pub count : n ≡ count_after 0 sets
@@ -23,18 +23,18 @@ pub record Make (list : List (List ℕ)) (n : ℕ) (m : Map) : Type 0 where
 
 -- the folder stands for this count and map
 abbrev pub StandsFor : Folder → ℕ → Map → Type 0
-StandsFor folder n m = Make (payloads_in (folder log_name)) n m
+StandsFor folder n m = Replays (payloads_in (folder log_name)) n m
 
 -- what an open store holds is what reads and each image of its log give
 pub record KeepsLog (held : Held) (disk : Contents) : Type 0 where
   pub file : held.log.file ≡ log_name
   pub list : List (List ℕ)
   pub log : EachLog held.log list disk
-  pub makes : Make list held.count held.map
+  pub makes : Replays list held.count held.map
 
 -- an image of the log stands for what is held
 abbrev pub LeavesHeld : Option (List ℕ) → Held → Type 0
-LeavesHeld image held = Make (payloads_in image) held.count held.map
+LeavesHeld image held = Replays (payloads_in image) held.count held.map
 
 -- an image of the log has the payloads of one that there was
 abbrev pub HasFrom : Contents → Option (List ℕ) → Type 0

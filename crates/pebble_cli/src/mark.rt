@@ -1,6 +1,6 @@
 ghost use Rattle.std.specs.Prelude.{◌≡◌, ◌⊎◌, Bool, List, ◌++◌, ◌∷◌, []};
 ghost use Rattle.pb_devices.specs.declared.trace.Mark.{Mark};
-ghost use Rattle.pb_machine.specs.Marks.{refusal_of, count_of, has_more};
+ghost use Rattle.pb_machine.specs.Trail.{refusal_in, count_in, goes_on};
 ghost use Rattle.pb_reply.specs.Statuses.{IsRunStatus};
 ghost use Rattle.pebble_cli.specs.Runs.{status_of as status_of_marks};
 ghost use Rattle.pebble_cli.specs.StoreStates.{TellsFault, mark_in};
@@ -13,15 +13,15 @@ pub fn mark_of(reply: &Reply, is_down: bool) -> Mark
     ensures { result ≡ mark_in reply.now is_down }
 {
     Mark {
-        refusal: refusal_of(reply),
-        count: count_of(reply),
-        more: has_more(reply),
+        refusal: refusal_in(reply),
+        count: count_in(reply),
+        more: goes_on(reply),
         down: [is_down, false, false, false, false, false, false, false],
     }
 }
 
-fn refusal_of(reply: &Reply) -> u64
-    ensures { result ≡ refusal_of reply.now }
+fn refusal_in(reply: &Reply) -> u64
+    ensures { result ≡ refusal_in reply.now }
 {
     match reply {
         Reply::Refused(refusal) => refusal.number(),
@@ -29,8 +29,8 @@ fn refusal_of(reply: &Reply) -> u64
     }
 }
 
-fn count_of(reply: &Reply) -> u64
-    ensures { result ≡ count_of reply.now }
+fn count_in(reply: &Reply) -> u64
+    ensures { result ≡ count_in reply.now }
 {
     match reply {
         Reply::Opened(count) | Reply::Accepted(count) => *count,
@@ -38,8 +38,8 @@ fn count_of(reply: &Reply) -> u64
     }
 }
 
-fn has_more(reply: &Reply) -> bool
-    ensures { result ≡ has_more reply.now }
+fn goes_on(reply: &Reply) -> bool
+    ensures { result ≡ goes_on reply.now }
 {
     matches!(reply, Reply::Started | Reply::Working)
 }

@@ -3,7 +3,7 @@ ghost use Rattle.pb_devices.specs.Contents.{IsSettled};
 ghost use Rattle.pb_devices.specs.Counts.{HasCauseAs};
 ghost use Rattle.pb_gate_log.specs.Calls.{IsOpenedOrMade, OpensOrMakes};
 ghost use Rattle.pebble_cli.specs.Faults.{IsStoreFault};
-ghost use Rattle.pebble_cli.specs.Folder.{log_name, Make, IsRead};
+ghost use Rattle.pebble_cli.specs.Folder.{log_name, Replays, IsRead};
 ghost use Rattle.pebble_cli.specs.Settings.{Set, IsSet, payload_of};
 ghost use Rattle.pb_keys.specs.Map.{Map};
 
@@ -35,9 +35,9 @@ pub fn open_log<D: Disk>(alloc: Global, disk: &mut D) -> Result<(GateLog, Vec<By
 
 /// The pairs that the payloads of a log set, in order, and the count of the last: 0 without a payload.
 pub fn read_sets(alloc: Global, payloads: &[Bytes]) -> Result<(Pairs, u64), StoreError>
-    ensures ok { IfOk result (λ read. Make payloads.now read.1 read.0) }
+    ensures ok { IfOk result (λ read. Replays payloads.now read.1 read.0) }
     ensures below { IfOk result (λ read. read.1 < 2 ^ 62) }
-    ensures damaged { result ≡ Err StoreError.Damaged → (n : ℕ) (m : Map) → Make payloads.now n m → ⊥ }
+    ensures damaged { result ≡ Err StoreError.Damaged → (n : ℕ) (m : Map) → Replays payloads.now n m → ⊥ }
     ensures known { IfErr result (λ refusal. (refusal ≡ StoreError.Damaged) ⊎ (refusal ≡ StoreError.NoMemory)) }
 {
     let mut pairs = Pairs::new(alloc);

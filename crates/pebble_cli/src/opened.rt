@@ -5,7 +5,7 @@ ghost use Rattle.pb_devices.specs.Contents.{MayLeave};
 ghost use Rattle.pb_devices.specs.Counts.{HasCauseAs};
 ghost use Rattle.pb_gate_log.specs.Payloads.{payloads_in};
 ghost use Rattle.pebble_cli.specs.Faults.{IsStoreFault};
-ghost use Rattle.pebble_cli.specs.Folder.{log_name, HasFrom, KeepsLog, LeavesHeld, Make};
+ghost use Rattle.pebble_cli.specs.Folder.{log_name, HasFrom, KeepsLog, LeavesHeld, Replays};
 ghost use Rattle.pebble_cli.specs.Store.{with_pair};
 ghost use Rattle.pb_keys.specs.Map.{Map};
 
@@ -45,9 +45,9 @@ impl Opened {
     /// the payloads of one that there was.
     pub fn open<D: Disk>(alloc: Global, disk: &mut D) -> Result<Opened, StoreError>
         ensures kept { D.told ≡ true → IfOk result (λ opened. KeepsLog opened (D.contents disk.new)) }
-        ensures found { D.told ≡ true → IfOk result (λ opened. Make (payloads_in ((D.contents disk.old).seen log_name)) opened.count opened.map) }
+        ensures found { D.told ≡ true → IfOk result (λ opened. Replays (payloads_in ((D.contents disk.old).seen log_name)) opened.count opened.map) }
         ensures damaged { D.told ≡ true → result ≡ Err StoreError.Damaged
-            → (n : ℕ) (m : Map) → Make (payloads_in ((D.contents disk.old).seen log_name)) n m → ⊥ }
+            → (n : ℕ) (m : Map) → Replays (payloads_in ((D.contents disk.old).seen log_name)) n m → ⊥ }
         ensures crash { D.told ≡ true → (image : Option (List ℕ)) → MayLeave (D.contents disk.new) log_name image
             → HasFrom (D.contents disk.old) image }
         ensures known { IfErr result (λ refusal. (refusal ≡ StoreError.Damaged) ⊎ (refusal ≡ StoreError.DiskFault) ⊎ (refusal ≡ StoreError.NoMemory)) }

@@ -5,12 +5,10 @@ ghost use Rattle.std.specs.List.{list_all};
 ghost use Rattle.pebble_cli.specs.Lines.{is_built, fault_line};
 ghost use Rattle.pb_gate_log.specs.Payloads.{payloads_in};
 ghost use Rattle.pebble_cli.specs.Folder.{log_name, HasFrom};
-ghost use Rattle.pebble_cli.specs.Headline.{Headline, IsGood, IsSpoilt};
-ghost use Rattle.pb_machine.specs.States.{StoreState};
-ghost use Rattle.pebble_cli.specs.Steps.{step_after, step_reply};
+ghost use Rattle.pebble_cli.specs.Headline.{Headline, IsGood, HasBadImage};
 ghost use Rattle.pebble_cli.specs.Usage.{is_run};
-ghost use Rattle.pebble_cli.specs.StoreStates.{IsIn, Keeps, Finds, HasReplyCause, IsSetBy, map_in, ran_of};
-ghost use Rattle.pebble_cli.specs.Runs.{script as script_task, fault, usage, task_of, task_of_source, task_of_script, lines_due, has_damage, IsReadWhole, IsWhole, IsCutShort, IsBeforeLines, Ends, Prints, Causes, Comes};
+ghost use Rattle.pebble_cli.specs.StoreStates.{Acts, Keeps, Finds, HasReplyCause, IsSetBy, map_in, ran_of};
+ghost use Rattle.pebble_cli.specs.Runs.{script as script_task, fault, usage, task_of, task_of_source, task_of_script, lines_of_task, has_damage, IsReadWhole, IsWhole, IsCutShort, IsBeforeLines, Ends, Prints, Causes, RunMeets};
 
 use crate::lines::read_lines;
 use crate::mark::{mark_of, status_with};
@@ -50,11 +48,11 @@ pub fn run<I: Source, O: Sink, D: Disk, B: Bucket>(
     // What the lines came to, what was printed, and, where each image of A's folder stood for some count and map, the
     // headline: no stop and no fault loses an accepted command.
     ensures comes { I.told ≡ true → (a b : D) (others : List D) → disks.old ≡ a ∷ others → disks.new ≡ b ∷ others
-        → Comes (task_of (map string_bytes words.now) (I.left script.old)) result trace.new.marks
+        → RunMeets (task_of (map string_bytes words.now) (I.left script.old)) result trace.new.marks
         (λ ran. O.told ≡ true → Prints (task_of (map string_bytes words.now) (I.left script.old)) result ran
         (O.taken out.old) (O.taken out.new) (O.fault_count out.old) (O.fault_count out.new))
         (λ ran. D.told ≡ true → IsGood (D.contents a)
-        → Headline (D.contents a) (D.contents b) (lines_due (task_of (map string_bytes words.now) (I.left script.old))) ran) }
+        → Headline (D.contents a) (D.contents b) (lines_of_task (task_of (map string_bytes words.now) (I.left script.old))) ran) }
     ensures said { O.told ≡ true → result ≡ Status.Usage → Prints usage result []
         (O.taken out.old) (O.taken out.new) (O.fault_count out.old) (O.fault_count out.new) }
     ensures usage { MatchBool (is_run (map string_bytes words.now)) (result ≢ Status.Usage) ((result ≡ Status.Usage) ⊎ (result ≡ Status.Memory)) }
@@ -65,7 +63,7 @@ pub fn run<I: Source, O: Sink, D: Disk, B: Bucket>(
     // Damage, and with it the status `Damaged`, comes of a log that stood for no count and map when the run began: no
     // stop and no fault of this run makes it.
     ensures damaged { D.told ≡ true → (a : D) (others : List D) → disks.old ≡ a ∷ others
-        → has_damage trace.new.marks ≡ true → IsSpoilt (D.contents a) }
+        → has_damage trace.new.marks ≡ true → HasBadImage (D.contents a) }
 
     ensures read { result ≡ Status.Read → Rose (I.fault_count script.old) (I.fault_count script.new) }
     ensures whole { I.told ≡ true → IsReadWhole result → I.left script.new ≡ [] }
@@ -94,15 +92,15 @@ fn run_source<I: Source, O: Sink, D: Disk>(
     trace: &mut Trace,
 ) -> Status
     requires { trace.old.marks ≡ [] }
-    ensures comes { I.told ≡ true → Comes (task_of_source (I.left source.old)) result trace.new.marks
+    ensures comes { I.told ≡ true → RunMeets (task_of_source (I.left source.old)) result trace.new.marks
         (λ ran. O.told ≡ true → Prints (task_of_source (I.left source.old)) result ran
         (O.taken out.old) (O.taken out.new) (O.fault_count out.old) (O.fault_count out.new))
         (λ ran. D.told ≡ true → IsGood (D.contents disk.old)
-        → Headline (D.contents disk.old) (D.contents disk.new) (lines_due (task_of_source (I.left source.old))) ran) }
+        → Headline (D.contents disk.old) (D.contents disk.new) (lines_of_task (task_of_source (I.left source.old))) ran) }
     ensures usage { result ≢ Status.Usage }
     ensures causes { Causes result trace.new.marks (O.fault_count out.old) (O.fault_count out.new) }
     ensures device { result ≡ Status.Device → Rose (D.fault_count disk.old) (D.fault_count disk.new) }
-    ensures damaged { D.told ≡ true → has_damage trace.new.marks ≡ true → IsSpoilt (D.contents disk.old) }
+    ensures damaged { D.told ≡ true → has_damage trace.new.marks ≡ true → HasBadImage (D.contents disk.old) }
     ensures read { result ≡ Status.Read → Rose (I.fault_count source.old) (I.fault_count source.new) }
     ensures whole { I.told ≡ true → IsReadWhole result → I.left source.new ≡ [] }
     ensures later { I.fault_count source.old ≤ I.fault_count source.new }
@@ -125,15 +123,15 @@ fn run_script<O: Sink, D: Disk>(
     trace: &mut Trace,
 ) -> Status
     requires { trace.old.marks ≡ [] }
-    ensures comes { Comes (task_of_script script.now (fault_line script.now)) result trace.new.marks
+    ensures comes { RunMeets (task_of_script script.now (fault_line script.now)) result trace.new.marks
         (λ ran. O.told ≡ true → Prints (task_of_script script.now (fault_line script.now)) result ran
         (O.taken out.old) (O.taken out.new) (O.fault_count out.old) (O.fault_count out.new))
         (λ ran. D.told ≡ true → IsGood (D.contents disk.old)
-        → Headline (D.contents disk.old) (D.contents disk.new) (lines_due (task_of_script script.now (fault_line script.now))) ran) }
+        → Headline (D.contents disk.old) (D.contents disk.new) (lines_of_task (task_of_script script.now (fault_line script.now))) ran) }
     ensures usage { (result ≢ Status.Usage) × (result ≢ Status.Read) × (result ≢ Status.TooLong) }
     ensures causes { Causes result trace.new.marks (O.fault_count out.old) (O.fault_count out.new) }
     ensures device { result ≡ Status.Device → Rose (D.fault_count disk.old) (D.fault_count disk.new) }
-    ensures damaged { D.told ≡ true → has_damage trace.new.marks ≡ true → IsSpoilt (D.contents disk.old) }
+    ensures damaged { D.told ≡ true → has_damage trace.new.marks ≡ true → HasBadImage (D.contents disk.old) }
     ensures untouched { IsBeforeLines result → disk.new ≡ disk.old }
 {
     match read_lines(alloc, script) {
@@ -167,7 +165,7 @@ fn run_lines<O: Sink, D: Disk>(
 ) -> Status
     requires built { list_all is_built lines.now ≡ true }
     requires empty { trace.old.marks ≡ [] }
-    ensures comes { Comes (script_task lines.now) result trace.new.marks
+    ensures comes { RunMeets (script_task lines.now) result trace.new.marks
         (λ ran. O.told ≡ true → Prints (script_task lines.now) result ran
         (O.taken out.old) (O.taken out.new) (O.fault_count out.old) (O.fault_count out.new))
         (λ ran. D.told ≡ true → IsGood (D.contents disk.old)
@@ -175,7 +173,7 @@ fn run_lines<O: Sink, D: Disk>(
     ensures status { IsWhole result ⊎ IsCutShort result }
     ensures causes { Causes result trace.new.marks (O.fault_count out.old) (O.fault_count out.new) }
     ensures device { result ≡ Status.Device → Rose (D.fault_count disk.old) (D.fault_count disk.new) }
-    ensures damaged { D.told ≡ true → has_damage trace.new.marks ≡ true → IsSpoilt (D.contents disk.old) }
+    ensures damaged { D.told ≡ true → has_damage trace.new.marks ≡ true → HasBadImage (D.contents disk.old) }
 {
     if trace.reserve(alloc, lines.len() as u64).is_err() {
         return Status::Memory;
@@ -207,8 +205,7 @@ fn run_step<D: Disk>(
     requires kept { D.told ≡ true → Keeps store.old (D.contents disk.old) }
     requires spare { 1 ≤ trace.old.spare }
     ensures kept { D.told ≡ true → Keeps store.new (D.contents disk.new) }
-    ensures reply { (state : StoreState) → IsIn store.old state → result ≡ step_reply state step (ran_of result store.new) }
-    ensures state { (state : StoreState) → IsIn store.old state → IsIn store.new (step_after state step (ran_of result store.new)) }
+    ensures acts { Acts store.old step result store.new }
     ensures found { D.told ≡ true → Finds (payloads_in ((D.contents disk.old).seen log_name)) step result (map_in store.new) }
     ensures crash { D.told ≡ true → (image : Option (List ℕ)) → MayLeave (D.contents disk.new) log_name image
         → HasFrom (D.contents disk.old) image ⊎ IsSetBy store.old step image }

@@ -1,10 +1,8 @@
 ghost use Rattle.std.specs.Prelude.{◌≡◌, ℕ, ◌⊎◌, true, List, Option};
 ghost use Rattle.pb_devices.specs.Contents.{MayLeave};
-ghost use Rattle.pb_machine.specs.States.{StoreState, is_open};
 ghost use Rattle.pb_gate_log.specs.Payloads.{payloads_in};
 ghost use Rattle.pebble_cli.specs.Folder.{log_name, HasFrom};
-ghost use Rattle.pebble_cli.specs.Steps.{step_after, step_reply};
-ghost use Rattle.pebble_cli.specs.StoreStates.{IsIn, Keeps, Finds, HasReplyCause, IsSetBy, TellsFault, has_fallen, map_in, ran_of};
+ghost use Rattle.pebble_cli.specs.StoreStates.{Acts, Keeps, Finds, HasReplyCause, IsSetBy, TellsFault, has_fallen, is_open, map_in};
 
 use crate::opened::Opened;
 use crate::step::Step;
@@ -28,8 +26,7 @@ impl Store {
     pub fn step<D: Disk>(&mut self, alloc: Global, disk: &mut D, step: Step) -> Reply
         requires { D.told ≡ true → Keeps self.old (D.contents disk.old) }
         ensures kept { D.told ≡ true → Keeps self.new (D.contents disk.new) }
-        ensures reply { (state : StoreState) → IsIn self.old state → result ≡ step_reply state step (ran_of result self.new) }
-        ensures state { (state : StoreState) → IsIn self.old state → IsIn self.new (step_after state step (ran_of result self.new)) }
+        ensures acts { Acts self.old step result self.new }
         ensures found { D.told ≡ true → Finds (payloads_in ((D.contents disk.old).seen log_name)) step result (map_in self.new) }
         ensures crash { D.told ≡ true → (image : Option (List ℕ)) → MayLeave (D.contents disk.new) log_name image
             → HasFrom (D.contents disk.old) image ⊎ IsSetBy self.old step image }
@@ -45,8 +42,7 @@ impl Store {
     fn open<D: Disk>(&mut self, alloc: Global, disk: &mut D) -> Reply
         requires { D.told ≡ true → Keeps self.old (D.contents disk.old) }
         ensures kept { D.told ≡ true → Keeps self.new (D.contents disk.new) }
-        ensures reply { (state : StoreState) → IsIn self.old state → result ≡ step_reply state Step.Open (ran_of result self.new) }
-        ensures state { (state : StoreState) → IsIn self.old state → IsIn self.new (step_after state Step.Open (ran_of result self.new)) }
+        ensures acts { Acts self.old Step.Open result self.new }
         ensures found { D.told ≡ true → Finds (payloads_in ((D.contents disk.old).seen log_name)) Step.Open result (map_in self.new) }
         ensures crash { D.told ≡ true → (image : Option (List ℕ)) → MayLeave (D.contents disk.new) log_name image
             → HasFrom (D.contents disk.old) image }
@@ -71,8 +67,7 @@ impl Store {
     fn set<D: Disk>(&mut self, alloc: Global, disk: &mut D, key: Word, value: Word) -> Reply
         requires { D.told ≡ true → Keeps self.old (D.contents disk.old) }
         ensures kept { D.told ≡ true → Keeps self.new (D.contents disk.new) }
-        ensures reply { (state : StoreState) → IsIn self.old state → result ≡ step_reply state (Step.Set key value) (ran_of result self.new) }
-        ensures state { (state : StoreState) → IsIn self.old state → IsIn self.new (step_after state (Step.Set key value) (ran_of result self.new)) }
+        ensures acts { Acts self.old (Step.Set key value) result self.new }
         ensures crash { D.told ≡ true → (image : Option (List ℕ)) → MayLeave (D.contents disk.new) log_name image
             → HasFrom (D.contents disk.old) image ⊎ IsSetBy self.old (Step.Set key value) image }
         ensures cause { HasReplyCause (D.fault_count disk.old) (D.fault_count disk.new) result }
@@ -91,8 +86,7 @@ impl Store {
     }
 
     fn get(&self, alloc: Global, key: &Word) -> Reply
-        ensures reply { (state : StoreState) → IsIn self.now state → result ≡ step_reply state (Step.Get key.now) (ran_of result self.now) }
-        ensures state { (state : StoreState) → IsIn self.now state → IsIn self.now (step_after state (Step.Get key.now) (ran_of result self.now)) }
+        ensures acts { Acts self.now (Step.Get key.now) result self.now }
         ensures fault { TellsFault result → ⊥ }
     {
         let Store::Open(opened) = self else {
@@ -108,7 +102,7 @@ impl Store {
     }
 
     fn is_open(&self) -> bool
-        ensures { (state : StoreState) → IsIn self.now state → result ≡ is_open state }
+        ensures { result ≡ is_open self.now }
     {
         matches!(self, Store::Open(_))
     }

@@ -1,7 +1,7 @@
 use Rattle.std.proofs.Common.{◌≡◌, ◌+◌, ◌++◌, ◌∷◌, [], ℕ, List, take, sym, ap, ◌∙◌, subst, arith, Err}
 use Rattle.std.proofs.lemmas.List.{take_all}
 use Rattle.std.proofs.lemmas.Grind.{take_at_read}
-use Rattle.pebble_cli.specs.Folder.{Make}
+use Rattle.pebble_cli.specs.Folder.{Replays}
 use Rattle.pebble_cli.proofs.SetFacts.{ReadTo, read_more, read_all, next_from}
 use Rattle.pebble_cli.proofs.StoreFacts.{refused_same}
 use Rattle.pebble_cli.specs.declared.store_error.StoreError.TheVariants.{Damaged}
@@ -31,5 +31,5 @@ pub returns-clause-ok : goal.returns-clause-ok
 returns-clause-ok c =
     let list = c.args.payloads.now in
     let whole : take c.loop-payload.payload-index list ≡ list = take_all c.loop-payload.payload-index list c.loop-payload-test.false in
-    subst (λ (n : ℕ). Make list n c.loop-payload.pairs) (sym c.saturating_sub.ensures)
+    subst (λ (n : ℕ). Replays list n c.loop-payload.pairs) (sym c.saturating_sub.ensures)
     (read_all list c.loop-payload.least c.loop-payload.pairs (subst (λ (l : List (List ℕ)). ReadTo l c.loop-payload.least c.loop-payload.pairs) whole c.loop-payload.invariant.read))

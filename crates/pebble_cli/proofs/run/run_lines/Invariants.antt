@@ -1,14 +1,14 @@
 use Rattle.std.proofs.Common.{◌≡◌, ◌++◌, ◌≤◌, ℕ, List, Option, true, length, drop}
 use Rattle.pb_devices.specs.Contents.{MayLeave}
 use Rattle.pb_devices.specs.Counts.{Rose}
-use Rattle.pebble_cli.specs.Headline.{IsGood, IsSpoilt}
+use Rattle.pebble_cli.specs.Headline.{IsGood, HasBadImage}
 use Rattle.pebble_cli.specs.Folder.{log_name}
 use Rattle.pebble_cli.specs.Runs.{has_damage, status_of}
 use Rattle.pebble_cli.specs.StoreStates.{Keeps}
 use Rattle.pb_reply.specs.declared.status.Status.TheVariants.{Device}
 use Rattle.pebble_cli.proofs.Crash.{Safe}
 use Rattle.pebble_cli.proofs.Damage.{FromOrMade}
-use Rattle.pebble_cli.proofs.Progress.{Going, texts}
+use Rattle.pebble_cli.proofs.Progress.{Going, past_of, texts}
 use Rattle.pebble_cli.proofs.run.run_lines.Given as goal
 
 abbrev pub invariant-loop-line : goal.invariant-loop-line
@@ -20,9 +20,9 @@ invariant-loop-line g l =
       later : g.O.Sink.fault_count l.initial.out ≤ g.O.Sink.fault_count l.out;
       kept : g.D.Disk.told ≡ true → Keeps l.store (g.D.Disk.contents l.disk);
       safe : g.D.Disk.told ≡ true → IsGood (g.D.Disk.contents l.initial.disk)
-          → Safe (g.D.Disk.contents l.initial.disk) (g.D.Disk.contents l.disk) l.lines (drop l.line-index l.lines) going.ran going.state;
+          → Safe (g.D.Disk.contents l.initial.disk) (g.D.Disk.contents l.disk) l.lines (drop l.line-index l.lines) going.ran l.store (past_of going);
       from : g.D.Disk.told ≡ true → (image : Option (List ℕ)) → MayLeave (g.D.Disk.contents l.disk) log_name image → FromOrMade (g.D.Disk.contents l.initial.disk) image;
-      spoilt : g.D.Disk.told ≡ true → has_damage l.trace.marks ≡ true → IsSpoilt (g.D.Disk.contents l.initial.disk);
+      spoilt : g.D.Disk.told ≡ true → has_damage l.trace.marks ≡ true → HasBadImage (g.D.Disk.contents l.initial.disk);
       disk_later : g.D.Disk.fault_count l.initial.disk ≤ g.D.Disk.fault_count l.disk;
       device : l.status ≡ Device → Rose (g.D.Disk.fault_count l.initial.disk) (g.D.Disk.fault_count l.disk);
     }

@@ -1,4 +1,4 @@
-use Rattle.std.proofs.Common.{List, ℕ, Err, ap, sym, subst}
+use Rattle.std.proofs.Common.{Err, ap, sym, subst}
 use Rattle.pb_gate_log.specs.Payloads.{payloads_in}
 use Rattle.pebble_cli.specs.Folder.{log_name}
 use Rattle.pebble_cli.specs.StoreStates.{Finds, map_in}

@@ -1,8 +1,3 @@
-pub mod States
-pub mod Marks
-pub mod Stores
-pub mod Lines
-pub mod Runs
 pub mod Named
 pub mod Family
 pub mod Ran

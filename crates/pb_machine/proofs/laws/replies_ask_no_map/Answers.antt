@@ -1,5 +1,5 @@
 use Rattle.pb_machine.proofs.SameReplies.{same_replies, same_downs}
-use Rattle.pb_machine.proofs.family.replies_ask_no_map.Goals as goal
+use Rattle.pb_machine.proofs.laws.replies_ask_no_map.Goals as goal
 
 pub returns-clause-replies : goal.returns-clause-replies
 returns-clause-replies c = same_replies

@@ -1,5 +1,5 @@
 use Rattle.pb_machine.proofs.Turns.{turn_reply, turn_after}
-use Rattle.pb_machine.proofs.family.turn_ends_what_start_began.Goals as goal
+use Rattle.pb_machine.proofs.laws.turn_ends_what_start_began.Goals as goal
 
 pub returns-clause-reply : goal.returns-clause-reply
 returns-clause-reply c = turn_reply

@@ -1,5 +1,5 @@
 use Rattle.pb_machine.proofs.Stores.{others_kept, all_kept}
-use Rattle.pb_machine.proofs.family.others_stay.Goals as goal
+use Rattle.pb_machine.proofs.laws.others_stay.Goals as goal
 
 pub returns-clause-named : goal.returns-clause-named
 returns-clause-named c = others_kept

@@ -1,5 +1,5 @@
 use Rattle.pb_machine.proofs.Refused.{opening_rises, opening_kept, openings_stay}
-use Rattle.pb_machine.proofs.family.openings_rise.Goals as goal
+use Rattle.pb_machine.proofs.laws.openings_rise.Goals as goal
 
 pub returns-clause-opened : goal.returns-clause-opened
 returns-clause-opened c = opening_rises

@@ -1,5 +1,5 @@
 use Rattle.pb_machine.proofs.Refused.{history_kept}
-use Rattle.pb_machine.proofs.family.a_refusal_keeps_the_history.Goals as goal
+use Rattle.pb_machine.proofs.laws.a_refusal_keeps_the_history.Goals as goal
 
 pub returns : goal.returns
 returns c = history_kept

@@ -1,6 +1,6 @@
-//! Excises of 4,096 tables.
+//! Excises of as many tables as a version holds.
 use crate::plain::{Placed, whole};
-use crate::stores::{cut, store_of};
+use crate::stores::{cut, excise_bytes, store_of};
 use pb_excise::parts;
 use pb_keys::Span;
 use pb_version::Version;
@@ -16,8 +16,8 @@ fn many(alloc: Global, count: u64) -> Result<Vec<Placed>, AllocError> {
     Ok(tables)
 }
 
-fn full(alloc: Global) -> Result<Version, Fail> {
-    let tables = many(alloc, 4096)?;
+fn full(alloc: Global, count: u64) -> Result<Version, Fail> {
+    let tables = many(alloc, count)?;
     match store_of(alloc, 4102, tables.as_slice())? {
         Some(version) => Ok(version),
         None => Err(Fail::from("the store is refused")),
@@ -29,30 +29,51 @@ fn parts_of(alloc: Global, version: &Version, lo: &[u8], hi: &[u8]) -> Result<u6
     Ok(parts(version, &span))
 }
 
+/// Whether an edit is planned that takes the span out.
+fn is_planned(alloc: Global, version: &Version, lo: &[u8], hi: &[u8]) -> Result<bool, Fail> {
+    let span = Span::new(alloc, lo, hi)?;
+    let planned = excise_bytes(alloc, version, &span, 3)?;
+    Ok(planned.is_some())
+}
+
 #[test]
-fn each_of_4096_tables_is_cut_once(rt: HostRuntime) -> Result<(), Fail> {
-    let mut version = full(rt.alloc())?;
+fn each_of_4096_tables_is_planned_once(rt: HostRuntime) -> Result<(), Fail> {
+    let version = full(rt.alloc(), 4096)?;
     assert_eq!(rt; parts_of(rt.alloc(), &version, b"b", b"d")?, 4096);
-    assert!(rt; cut(rt.alloc(), &mut version, b"b", b"d")?);
-    assert_eq!(rt; version.len(), 4096);
-    assert_eq!(rt; version.backing(6), Some(8));
-    assert_eq!(rt; version.backing(4101), Some(8));
+    assert!(rt; is_planned(rt.alloc(), &version, b"b", b"d")?);
     Ok(())
 }
 
 #[test]
-fn cut_inside_4096_tables_leave_too_many(rt: HostRuntime) -> Result<(), Fail> {
-    let mut version = full(rt.alloc())?;
+fn each_of_4096_tables_is_planned_twice(rt: HostRuntime) -> Result<(), Fail> {
+    let version = full(rt.alloc(), 4096)?;
     assert_eq!(rt; parts_of(rt.alloc(), &version, b"aa", b"ab")?, 8192);
-    assert!(rt; !cut(rt.alloc(), &mut version, b"aa", b"ab")?);
-    assert_eq!(rt; version.len(), 4096);
-    assert_eq!(rt; version.backing(6), None);
+    assert!(rt; is_planned(rt.alloc(), &version, b"aa", b"ab")?);
     Ok(())
 }
 
 #[test]
-fn none_is_left_of_4096_tables_in_the_span(rt: HostRuntime) -> Result<(), Fail> {
-    let mut version = full(rt.alloc())?;
+fn each_of_1024_tables_is_cut_once(rt: HostRuntime) -> Result<(), Fail> {
+    let mut version = full(rt.alloc(), 1024)?;
+    assert!(rt; cut(rt.alloc(), &mut version, b"b", b"d")?);
+    assert_eq!(rt; version.len(), 1024);
+    assert_eq!(rt; version.backing(6), Some(8));
+    assert_eq!(rt; version.backing(1029), Some(8));
+    Ok(())
+}
+
+#[test]
+fn cut_inside_1024_tables_leave_two_of_each(rt: HostRuntime) -> Result<(), Fail> {
+    let mut version = full(rt.alloc(), 1024)?;
+    assert!(rt; cut(rt.alloc(), &mut version, b"aa", b"ab")?);
+    assert_eq!(rt; version.len(), 2048);
+    assert_eq!(rt; version.backing(6), Some(8));
+    Ok(())
+}
+
+#[test]
+fn none_is_left_of_1024_tables_in_the_span(rt: HostRuntime) -> Result<(), Fail> {
+    let mut version = full(rt.alloc(), 1024)?;
     assert!(rt; cut(rt.alloc(), &mut version, b"b", b"d")?);
     assert!(rt; cut(rt.alloc(), &mut version, b"a", b"b")?);
     assert_eq!(rt; version.len(), 0);

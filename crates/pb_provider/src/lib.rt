@@ -12,3 +12,4 @@ mod whole;
 pub use error::ReadError;
 pub use provider::Provider;
 pub use read_whole_error::ReadWholeError;
+pub use stages::is_stored;

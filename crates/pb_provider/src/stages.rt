@@ -69,7 +69,7 @@ fn opening_stage(version: &Version, number: u64) -> Stage
 }
 
 /// Whether the version has bytes under the number.
-fn is_stored(version: &Version, number: u64) -> bool
+pub fn is_stored(version: &Version, number: u64) -> bool
     ensures { result ≡ is_stored_in version.now number }
 {
     if is_shown(version, number) {

@@ -36,7 +36,7 @@ no_tables (Del key) low = refl
 no_tables (DelRange span) low = refl
 no_tables (Ingest span tables) low = absurd (omega (arith, low))
 
-nothing_waits : (entries : List LogEntry) → All IsEntry entries → waiting_in entries ≡ []
+pub nothing_waits : (entries : List LogEntry) → All IsEntry entries → waiting_in entries ≡ []
 nothing_waits [] all = refl
 nothing_waits (entry ∷ entries) all =
     let first = All-head IsEntry entry entries all in

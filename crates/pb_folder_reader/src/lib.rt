@@ -30,4 +30,6 @@ mod carved_tests;
 #[cfg(test)]
 mod catalogue_tests;
 #[cfg(test)]
+mod shown_tests;
+#[cfg(test)]
 mod tests;
